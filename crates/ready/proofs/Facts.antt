@@ -1,0 +1,50 @@
+-- What a step may use of memory that is ready: lengths, sound tables, records in range. Assumes nothing.
+use mathlib.Core.Path.{_≡_, sym, ap, ap₂, _∙_}
+use mathlib.Core.Bool.{true}
+use mathlib.Core.List.{List, map}
+use Prim.Native.Nat.{ℕ, _≤_}
+use native.Mathlib.Omega.{arith}
+use lib.ListN.{length, take, length-take}
+use lib.Ieee.{Float}
+use Rattle.kinds.specs.declared.State.{State}
+use Rattle.rules.specs.Board.{base, pending-size, confirmed-size, pending-most, confirmed-most, pending-bytes, confirmed-bytes}
+use Rattle.rules.specs.Counts.{places-of-counts}
+use Rattle.rules.specs.Records.{sound-table, laid}
+use Rattle.rules.specs.Memory.{Lent, pending-capacity, confirmed-capacity, pending-records, confirmed-records, lay-pending, lay-confirmed, view, state-of, lay}
+use Rattle.rules.proofs.Boards.{base-lawful}
+use Rattle.rules.proofs.Memory.{pending-kept, confirmed-kept, state-of-view}
+use Rattle.rules.proofs.Sound.{well-fits, laid-sound, pending-id, confirmed-id}
+use Rattle.ready.specs.Ready.{Ready}
+
+long : (n : ℕ) (xs : List Float) → length (take n xs) ≡ n → n ≤ length xs
+long n xs e = omega (arith, length-take n xs)
+
+module _ (s : State) (l : Lent) (r : Ready s l) where
+  pub confirmed-places : places-of-counts ≤ length (l .confirmed)
+  unfolding view
+  confirmed-places = long places-of-counts (l .confirmed) (r .well .confirmed)
+
+  pub resolved-places : places-of-counts ≤ length (l .resolved)
+  unfolding view
+  resolved-places = long places-of-counts (l .resolved) (r .well .resolved)
+
+  pub used-pending : length (view base s l .pending) ≡ s .pending
+  unfolding state-of
+  used-pending = ap (λ (t : State). t .pending) (state-of-view base s l)
+
+  pub used-recent : length (view base s l .recent) ≡ s .recent
+  unfolding state-of
+  used-recent = ap (λ (t : State). t .recent) (state-of-view base s l)
+
+  -- both tables are sound
+  pub pending-sound : sound-table pending-size pending-most (s .pending) (l .pending) ≡ true
+  unfolding lay lay-pending
+  pending-sound =
+      ap₂ (λ (n : ℕ) (xs : List ℕ). sound-table pending-size pending-most n xs) (sym used-pending) (sym (ap (λ (m : Lent). m .pending) (r .own)))
+      ∙ laid-sound pending-kept (λ q. q .id) (pending-id base base-lawful) pending-most (l .pending) (well-fits (r .well) .pending) (r .well .pending-up) (r .room .pending)
+
+  pub recent-sound : sound-table confirmed-size confirmed-most (s .recent) (l .recent) ≡ true
+  unfolding lay lay-confirmed
+  recent-sound =
+      ap₂ (λ (n : ℕ) (xs : List ℕ). sound-table confirmed-size confirmed-most n xs) (sym used-recent) (sym (ap (λ (m : Lent). m .recent) (r .own)))
+      ∙ laid-sound confirmed-kept (λ q. q .id) confirmed-id confirmed-most (l .recent) (r .well .recent) (r .well .recent-up) (r .room .recent)

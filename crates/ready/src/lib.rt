@@ -1,0 +1,1 @@
+// Laws only, no code: lent memory that is ready for a step, and how steps follow one another.
