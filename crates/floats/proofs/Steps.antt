@@ -9,11 +9,12 @@ use lib.ListN.{length, getD, replicate}
 use lib.Ieee.{Float, nan, binary64, fits, mul}
 use Rattle.rules.specs.Lists.{every, places}
 use Rattle.rules.specs.Counts.{Counts, nought, one-more, gain, apply-decay, sound-count}
-use Rattle.rules.specs.Estimator.{Board, Pending, outwaited, expire-targets}
+use Rattle.rules.specs.Estimator.{outwaited, expire-targets}
 use Rattle.rules.proofs.All.{All, none, more, all-map}
 use Rattle.rules.proofs.Records.{and-left, and-right}
 use Rattle.rules.proofs.Sound.{every-of}
 use Rattle.floats.proofs.Count.{Counted, zero-counted, one-more-counted, Factor, decay-counted}
+use Rattle.rules.specs.Board.{Board, Pending}
 
 -- sound counts that are binary64 numbers, as those of a slice are
 pub all-counted : (xs : Counts) → every sound-count xs ≡ true → ((i : ℕ) → i < length xs → T (fits binary64 (getD xs i nan))) → All Counted xs
