@@ -1,0 +1,87 @@
+// THE PUBLIC CALLS. Each is what its definition in rules/specs/Calls says, for every input; none asks anything of its caller.
+mod column;
+
+use column::column_of;
+use counts::rate_in_column;
+use counts::sound_counts;
+use kinds::Blocks;
+use kinds::EnterAnswer;
+use kinds::Entered;
+use kinds::Estimated;
+use kinds::FeeRate;
+use kinds::Height;
+use kinds::State;
+use table::Found;
+ghost use mathlib.Core.Path.{_≡_};
+ghost use Rattle.kinds.specs.Answers.{enter-answer, estimate-answer};
+ghost use Rattle.rules.specs.Ladder.{bucket-index};
+ghost use Rattle.rules.specs.Board.{base};
+ghost use Rattle.rules.specs.Calls.{outcome, enter-call, estimate-call};
+
+// Enter (id, rate, height).
+pub fn tx_entered(
+    state: State,
+    pending: &mut [u8],
+    id: &[u8; 32],
+    rate: FeeRate,
+    height: Height,
+) -> Entered
+    ensures { λ r. ⌜ outcome (enter-answer (r .answer)) (r .state) (now (pending .exit)) ≡ enter-call base state (now (pending .entry)) (now (id .entry)) rate height ⌝ }
+{
+    let used = state.pending;
+    if !table::judge_pending(pending, used) {
+        return Entered {
+            answer: EnterAnswer::Damaged,
+            state,
+        };
+    }
+    match table::find(pending, 44, used, id) {
+        Found::At(_) => Entered {
+            answer: EnterAnswer::AlreadyPending,
+            state,
+        },
+        Found::Gap(at) => {
+            if used == table::capacity(pending, 44, 10000) {
+                return Entered {
+                    answer: EnterAnswer::PendingFull,
+                    state,
+                };
+            }
+            let bucket = ladder::bucket_index_for_rate(rate) as u32;
+            table::insert_pending(pending, used, at, id, bucket, height);
+            let last = state.last;
+            let recent = state.recent;
+            Entered {
+                answer: EnterAnswer::Done,
+                state: State {
+                    last,
+                    pending: used + 1,
+                    recent,
+                },
+            }
+        }
+    }
+}
+
+// The rate at which a transaction is confirmed within the target.
+pub fn estimate(state: State, confirmed: &[f64], resolved: &[f64], target: Blocks) -> Estimated
+    ensures { λ r. ⌜ estimate-answer r ≡ estimate-call base state (now (confirmed .entry)) (now (resolved .entry)) target ⌝ }
+{
+    if !sound_counts(confirmed) {
+        return Estimated::Damaged;
+    }
+    if !sound_counts(resolved) {
+        return Estimated::Damaged;
+    }
+    if target.0 == 0 {
+        return Estimated::NoRate;
+    }
+    rate_in_column(confirmed, resolved, column_of(target))
+}
+
+// The bucket that a rate belongs to.
+pub fn bucket_index_for_rate(rate: FeeRate) -> usize
+    ensures { λ b. ⌜ b ≡ bucket-index (rate .0) ⌝ }
+{
+    ladder::bucket_index_for_rate(rate)
+}
