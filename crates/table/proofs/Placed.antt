@@ -6,18 +6,18 @@ use mathlib.Core.List.{List, [], _++_, map, append-nil}
 use Prim.Native.Nat.{ℕ, _+_, _*_, _-_, _≤_, _<_}
 use native.Mathlib.Nat.{zero-add, add-zero}
 use native.Mathlib.Omega.{arith}
-use lib.ListN.{length, drop, getD, set, replicate, length-set, length-map, length-drop, drop-of-length-le}
-use lib.Seq.{take-at, drop-drop, drop-append-add}
+use lib.ListN.{length, drop, getD, set, length-set, length-map, drop-of-length-le}
+use lib.Seq.{sets, sets-eq, take-at, drop-drop, drop-append-add}
 use Rattle.seqs.proofs.Part.{next-part}
 use Rattle.rules.specs.Ids.{rising, placed, dropped}
 use Rattle.rules.specs.Records.{records, joined, id-of, laid}
 use Rattle.rules.proofs.Records.{Sized, length-records, sized-records, length-joined}
 use Rattle.table.specs.Search.{find-in}
 use Rattle.table.specs.Edit.{insert-at}
-use Rattle.table.specs.Moves.{stored, zeroed}
+use Rattle.words.specs.Moves.{zeroed}
 use Rattle.table.specs.declared.Found.the-variants.{At, Gap}
 use Rattle.table.proofs.Records.{sized-set, sized-at}
-use Rattle.table.proofs.Laid.{laid-full, stored-bytes, length-insert}
+use Rattle.table.proofs.Laid.{laid-full, sets-bytes, length-insert}
 use Rattle.table.proofs.Search.{at-told, gap-told}
 use Rattle.table.proofs.View.{gap-placed, at-set}
 
@@ -32,12 +32,17 @@ laid-more size n rs xs s e =
     let d : drop (n * size + size) (J ++ D) ≡ drop (n * size + size) xs = ap (λ (m : ℕ). drop (m + size) (J ++ D)) (sym l) ∙ drop-append-add J D size ∙ drop-drop size (n * size) xs in
     rw (f, take-at J D (n * size) l, d, next-part, e)
 
--- a record stored over another of its length
-stored-over : (r s : List ℕ) → length s ≡ length r → stored 0 r s ≡ r
-unfolding stored
-stored-over r s e = rw (zero-add, drop-of-length-le s {i = length r} (omega arith)) (append-nil r)
+-- a record set over another of its length
+set-over : (r s : List ℕ) → length s ≡ length r → sets s 0 r ≡ r
+set-over r s e = sets-eq r s 0 (omega arith) ∙ rw (zero-add, drop-of-length-le s {i = length r} (omega arith)) (append-nil r)
 
-module _ (size used at : ℕ) (rec xs : List ℕ) (l : length rec ≡ size) (room : used * size + size ≤ length xs) (up : rising (map id-of (records size used xs)) ≡ true) where
+-- what `place` asks for
+pub record Placing (size used : ℕ) (rec xs : List ℕ) : Type 0 where
+  pub long : length rec ≡ size
+  pub room : used * size + size ≤ length xs
+  pub up : rising (map id-of (records size used xs)) ≡ true
+
+module _ (size used at : ℕ) (rec xs : List ℕ) (p : Placing size used rec xs) where
   abbrev rs : List (List ℕ)
   rs = records size used xs
 
@@ -48,20 +53,20 @@ module _ (size used at : ℕ) (rec xs : List ℕ) (l : length rec ≡ size) (roo
 
     at-placed : set rs at rec ≡ placed id-of rec rs
     unfolding placed dropped
-    at-placed = at-set id-of rec 0 at rs up (rw zero-add f)
+    at-placed = at-set id-of rec 0 at rs (p .up) (rw zero-add f)
 
     pub at-count : used ≡ length (placed id-of rec rs)
     at-count = sym (ap length (sym at-placed) ∙ length-set rs at rec ∙ length-records size used xs)
 
-    pub at-bytes : zeroed (used * size) (used * size + size) (stored (at * size) rec xs) ≡ laid size (used + 1) (placed id-of rec rs) xs
+    pub at-bytes : zeroed (used * size) (used * size + size) (sets xs (at * size) rec) ≡ laid size (used + 1) (placed id-of rec rs) xs
     at-bytes =
-        let s : Sized size rs = sized-records size used xs (omega arith) in
+        let s : Sized size rs = sized-records size used xs (omega (arith, p .room)) in
         let m : at < length rs = rw length-records at-within in
-        let o : stored 0 rec (getD rs at []) ≡ rec = stored-over rec (getD rs at []) (sized-at size at rs s m ∙ sym l) in
-        let b : stored (at * size) rec xs ≡ laid size used (set rs at rec) xs =
-        ap (λ (p : ℕ). stored p rec xs) (sym (add-zero (at * size))) ∙ stored-bytes size used at 0 rec xs at-within (omega arith) (omega arith) ∙ rw o in
+        let o : sets (getD rs at []) 0 rec ≡ rec = set-over rec (getD rs at []) (sized-at size at rs s m ∙ sym (p .long)) in
+        let b : sets xs (at * size) rec ≡ laid size used (set rs at rec) xs =
+        ap (λ (q : ℕ). sets xs q rec) (sym (add-zero (at * size))) ∙ sets-bytes size used at 0 rec xs at-within (omega (arith, p .long)) (omega (arith, p .room)) ∙ rw o in
         ap (zeroed (used * size) (used * size + size)) b
-        ∙ laid-more size used (set rs at rec) xs (sized-set size at rec rs l s) (length-set rs at rec ∙ length-records size used xs)
+        ∙ laid-more size used (set rs at rec) xs (sized-set size at rec rs (p .long) s) (length-set rs at rec ∙ length-records size used xs)
         ∙ rw at-placed
 
   -- the id is missing
@@ -70,7 +75,7 @@ module _ (size used at : ℕ) (rec xs : List ℕ) (l : length rec ≡ size) (roo
     gap-within = rw (length-map, length-records) at (gap-told (id-of rec) (map id-of rs) at f .within)
 
     pub gap-is : insert-at at rec rs ≡ placed id-of rec rs
-    gap-is = gap-placed id-of rec at rs up f
+    gap-is = gap-placed id-of rec at rs (p .up) f
 
     pub gap-count : used + 1 ≡ length (placed id-of rec rs)
     gap-count = sym (ap length (sym gap-is) ∙ length-insert at rec rs ∙ ap (λ (n : ℕ). n + 1) (length-records size used xs))
