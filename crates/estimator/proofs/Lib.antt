@@ -1,3 +1,4 @@
 pub mod Slices
+pub mod Clearing
 pub mod Entering
 pub mod Estimating

@@ -1,6 +1,9 @@
 // THE PUBLIC CALLS. Each is what its definition in rules/specs/Calls says, for every input; none asks anything of its caller.
+mod clear;
 mod column;
 
+use clear::clear_counts;
+use clear::clear_table;
 use column::column_of;
 use counts::rate_in_column;
 use counts::sound_counts;
@@ -10,13 +13,55 @@ use kinds::Entered;
 use kinds::Estimated;
 use kinds::FeeRate;
 use kinds::Height;
+use kinds::Last;
+use kinds::StartAnswer;
+use kinds::Started;
 use kinds::State;
 use table::Found;
 ghost use mathlib.Core.Path.{_≡_};
-ghost use Rattle.kinds.specs.Answers.{enter-answer, estimate-answer};
+ghost use Rattle.kinds.specs.Answers.{start-answer, enter-answer, estimate-answer};
 ghost use Rattle.rules.specs.Ladder.{bucket-index};
 ghost use Rattle.rules.specs.Board.{base};
-ghost use Rattle.rules.specs.Calls.{outcome, enter-call, estimate-call};
+ghost use Rattle.rules.specs.Memory.{lent};
+ghost use Rattle.rules.specs.Calls.{outcome, start-call, enter-call, estimate-call};
+
+// A fresh start: no count, no record, no last height.
+pub fn new(
+    confirmed: &mut [f64],
+    resolved: &mut [f64],
+    pending: &mut [u8],
+    recent: &mut [u8],
+) -> Started
+    ensures { λ r. ⌜
+        outcome (start-answer (r .answer)) (r .state) (lent (now (confirmed .exit)) (now (resolved .exit)) (now (pending .exit)) (now (recent .exit)))
+        ≡ start-call base (lent (now (confirmed .entry)) (now (resolved .entry)) (now (pending .entry)) (now (recent .entry))) ⌝ }
+{
+    let state = State {
+        last: Last::Nothing,
+        pending: 0,
+        recent: 0,
+    };
+    if confirmed.len() < 3550 {
+        return Started {
+            answer: StartAnswer::Damaged,
+            state,
+        };
+    }
+    if resolved.len() < 3550 {
+        return Started {
+            answer: StartAnswer::Damaged,
+            state,
+        };
+    }
+    clear_counts(confirmed);
+    clear_counts(resolved);
+    clear_table(pending, 44, 10000);
+    clear_table(recent, 36, 1000000);
+    Started {
+        answer: StartAnswer::Done,
+        state,
+    }
+}
 
 // Enter (id, rate, height).
 pub fn tx_entered(
@@ -29,7 +74,7 @@ pub fn tx_entered(
     ensures { λ r. ⌜ outcome (enter-answer (r .answer)) (r .state) (now (pending .exit)) ≡ enter-call base state (now (pending .entry)) (now (id .entry)) rate height ⌝ }
 {
     let used = state.pending;
-    if !table::judge_pending(pending, used) {
+    if !passes::judge_pending(pending, used) {
         return Entered {
             answer: EnterAnswer::Damaged,
             state,
