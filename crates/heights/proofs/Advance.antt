@@ -30,7 +30,7 @@ use Rattle.table.proofs.Sound.{Sound, sound-told, sound-room}
 use Rattle.ready.specs.Ready.{Ready}
 use Rattle.ready.proofs.Facts.{resolved-places, used-pending, used-recent, pending-sound, recent-sound}
 use Rattle.heights.proofs.Expiry.{expire-first}
-use Rattle.heights.proofs.Tables.{written, keep-written, map-written, laid-again, raised-written}
+use Rattle.heights.proofs.Tables.{written, keep-written, map-written, laid-again, moved-fits, raised-written}
 
 -- ---- counts, decayed after expiry
 
@@ -67,8 +67,8 @@ module _ (s : State) (l : Lent) (r : Ready s l) where
         let fit = well-fits (r .well) .pending in
         let there : records pending-size (s .pending) (l .pending) ≡ map pending-bytes (view base s l .pending) =
         ap (λ (n : ℕ). records pending-size n (l .pending)) (sym (used-pending s l r)) ∙ written pending-kept (pending-capacity base (l .pending)) (l .pending) fit (ap (λ (m : Lent). m .pending) (r .own)) in
-        rw (there, map-written pending-kept (raised 1 h) (moved base h) (λ q f. raised-written base h q f) fit)
-        (keep-written pending-kept (λ q. ltb (q .through) 25) ?)
+        rw (there, map-written pending-kept (raised 1 h) (moved base h) (raised-written base h) fit)
+        (keep-written pending-kept (λ q. ltb (q .through) 25) (all-map (moved base h) (moved-fits base h) fit))
 
     recent-left : keep (λ b. leb (h - confirmed-of b .height) 25) (records confirmed-size (s .recent) (l .recent)) ≡ map confirmed-bytes (advance-height base h (view base s l) .recent)
     unfolding lay lay-confirmed advance-height

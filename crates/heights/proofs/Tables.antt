@@ -3,10 +3,10 @@
 use mathlib.Core.Path.{_≡_, refl, sym, ap, ap₂, _∙_}
 use mathlib.Core.Bool.{Bool, true, false, cond}
 use mathlib.Core.List.{List, [], _∷_, _++_, map, append-nil}
-use Prim.Native.Nat.{ℕ, _+_, _*_, _≤_, max}
+use Prim.Native.Nat.{ℕ, _+_, _*_, _^_, _≤_, _<_, max}
 use native.Mathlib.Nat.{le-refl}
 use native.Mathlib.Omega.{arith}
-use lib.Dec.{ltb}
+use lib.Dec.{ltb, lit<}
 use lib.ListN.{length, take, drop, length-map, length-append, drop-of-length-le}
 use lib.Seq.{sets-eq, take-at}
 use borrow.Author.Tests.{ltb-true, ltb-false}
@@ -83,6 +83,9 @@ module _ (k : Board) (h : ℕ) (r : Pending) (f : PendingFits r) where
       let la : length (front ++ t) ≡ 44 = length-append front t ∙ omega arith in
       sets-eq (bytes 4 v) (front ++ t) 40 (omega arith)
       ∙ rw (lv, take-at front t 40 lf, drop-of-length-le (front ++ t) {i = 44} (omega arith)) (append-nil _)
+
+  pub moved-fits : PendingFits (moved k h r)
+  moved-fits = let few : 25 < 256 ^ 4 = lit< tt in record { id = f .id; bucket = f .bucket; entry = f .entry; through = omega (arith, f .through) }
 
   pub raised-written : raised (k .width) h (pending-bytes r) ≡ pending-bytes (moved k h r)
   unfolding raised pending-of
