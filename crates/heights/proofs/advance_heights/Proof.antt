@@ -19,7 +19,7 @@ abbrev μ-loop : tie.MeasureT-loop
 μ-loop confirmed₀ resolved₀ pending₀ recent₀ n from s₀ i₀ confirmed resolved pending recent s i = n - i
 
 -- the memory at entry
-abbrev given : tie.Start → Lent
+abbrev given : tie.Start Inv-loop μ-loop → Lent
 given s = lent (now (s .args .confirmed)) (now (s .args .resolved)) (now (s .args .pending)) (now (s .args .recent))
 
 loop-holds : tie.Need-loop-holds Inv-loop μ-loop
