@@ -1,6 +1,6 @@
 -- What an advance of ready memory leaves is the advanced estimator, laid: counts and tables each by their own law.
 -- Assumes nothing.
-use mathlib.Core.Path.{_≡_, refl, sym, ap, _∙_}
+use mathlib.Core.Path.{_≡_, sym, ap, _∙_}
 use mathlib.Core.List.{List, _++_, map}
 use Prim.Native.Nat.{ℕ, _-_, _*_, _≤_}
 use native.Mathlib.Omega.{arith}
@@ -9,7 +9,6 @@ use lib.ListN.{length, take, drop, length-map}
 use lib.Seq.{take-at, drop-at, length-take-le}
 use lib.Ieee.{Float}
 use Rattle.kinds.specs.declared.Height.{Height}
-use Rattle.kinds.specs.declared.Last.{Last}
 use Rattle.kinds.specs.declared.Last.the-variants.{At}
 use Rattle.kinds.specs.declared.State.{State}
 use Rattle.kinds.specs.Answers.{done}
@@ -17,9 +16,9 @@ use Rattle.rules.specs.Lists.{keep}
 use Rattle.rules.specs.Counts.{Counts, places-of-counts, apply-decay}
 use Rattle.rules.specs.Records.{records, laid}
 use Rattle.rules.specs.Board.{base, pending-size, pending-most, pending-bytes, pending-of, confirmed-size, confirmed-most, confirmed-bytes, confirmed-of}
-use Rattle.rules.specs.Estimator.{Estimator, expire-targets, moved, advance-height}
-use Rattle.rules.specs.Memory.{Lent, lent, pending-capacity, confirmed-capacity, pending-records, confirmed-records, lay-pending, lay-confirmed, view, state-of, lay}
-use Rattle.rules.specs.Calls.{Outcome, outcome, accepted}
+use Rattle.rules.specs.Estimator.{expire-targets, moved, advance-height}
+use Rattle.rules.specs.Memory.{Lent, lent, pending-capacity, confirmed-capacity, pending-records, lay-pending, lay-confirmed, view, state-of, lay}
+use Rattle.rules.specs.Calls.{outcome, accepted}
 use Rattle.rules.proofs.All.{All, all-map}
 use Rattle.rules.proofs.Memory.{pending-kept, confirmed-kept}
 use Rattle.rules.proofs.Well.{WellPending, length-expire}
@@ -43,10 +42,10 @@ same : {h : Height} {p q m n : ℕ} {c c' r r' : List Float} {x x' y y' : List �
 same a b d e f g = cc
 
 module _ (s : State) (l : Lent) (r : Ready s l) where
-  pub pending-told : Sound pending-size pending-most (s .pending) (l .pending)
+  pending-told : Sound pending-size pending-most (s .pending) (l .pending)
   pending-told = sound-told pending-size pending-most (s .pending) (l .pending) (pending-sound s l r)
 
-  pub recent-told : Sound confirmed-size confirmed-most (s .recent) (l .recent)
+  recent-told : Sound confirmed-size confirmed-most (s .recent) (l .recent)
   recent-told = sound-told confirmed-size confirmed-most (s .recent) (l .recent) (recent-sound s l r)
 
   -- room for what the passes ask

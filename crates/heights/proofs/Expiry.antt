@@ -2,15 +2,14 @@
 -- below 142. Assumes nothing.
 use mathlib.Core.Path.{_≡_, refl, sym, ap, _∙_}
 use mathlib.Core.Bool.{Bool, _&&_}
-use mathlib.Core.List.{List, [], _∷_, _++_, map}
+use mathlib.Core.List.{List, [], _∷_, _++_}
 use Prim.Native.Nat.{ℕ, zero, suc, _+_, _≤_, _<_, zero-le}
 use native.Mathlib.Nat.{not-suc-le-zero, le-of-suc-le-suc}
 use native.Mathlib.Numerals.{add-one}
 use native.Mathlib.Omega.{arith}
 use lib.Dec.{leb, ltb}
-use lib.ListN.{length, take, drop, getD, length-map, length-append, length-drop, take-append-drop, drop-of-length-le, List·getD-map}
+use lib.ListN.{length, take, drop, getD, length-map, length-append, take-append-drop, drop-of-length-le, List·getD-map}
 use lib.Seq.{drop-cons, take-at, drop-at, length-take-le}
-use lib.Ieee.{Float}
 use Rattle.rules.specs.Board.{Board, Pending, base, pending-of}
 use Rattle.rules.specs.Counts.{Counts, places-of-counts, gain}
 use Rattle.rules.specs.Records.{records}
@@ -18,7 +17,7 @@ use Rattle.rules.specs.Estimator.{outwaited, expire-targets}
 use Rattle.rules.specs.Memory.{pending-records}
 use Rattle.rules.proofs.All.{All, none, more}
 use Rattle.rules.proofs.Records.{length-records}
-use Rattle.rules.proofs.Well.{WellPending, length-gain, length-expire}
+use Rattle.rules.proofs.Well.{WellPending, length-gain}
 use Rattle.counts.proofs.Gain.{gain-first}
 
 -- what holds of each holds of number i
@@ -30,7 +29,7 @@ all-at (more p ps) (suc i) d h = all-at ps i d (le-of-suc-le-suc h)
 -- ---- pending records by their number
 
 module _ (used : ℕ) (xs : List ℕ) where
-  pub how-many : length (pending-records base used xs) ≡ used
+  how-many : length (pending-records base used xs) ≡ used
   unfolding pending-records
   how-many = length-map (records 44 used xs) pending-of ∙ length-records 44 used xs
 

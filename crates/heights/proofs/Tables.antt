@@ -2,12 +2,12 @@
 -- Assumes nothing.
 use mathlib.Core.Path.{_≡_, refl, sym, ap, ap₂, _∙_}
 use mathlib.Core.Bool.{Bool, true, false, cond}
-use mathlib.Core.List.{List, [], _∷_, _++_, map, append-nil}
+use mathlib.Core.List.{List, _∷_, _++_, map, append-nil}
 use Prim.Native.Nat.{ℕ, _+_, _*_, _^_, _≤_, _<_, max}
 use native.Mathlib.Nat.{le-refl}
 use native.Mathlib.Omega.{arith}
 use lib.Dec.{ltb, lit<}
-use lib.ListN.{length, take, drop, length-map, length-append, drop-of-length-le}
+use lib.ListN.{length, length-map, length-append, drop-of-length-le}
 use lib.Seq.{sets-eq, take-at}
 use borrow.Author.Tests.{ltb-true, ltb-false}
 use Rattle.rules.specs.Lists.{keep}
@@ -19,7 +19,7 @@ use Rattle.rules.proofs.All.{All, none, more}
 use Rattle.rules.proofs.Bytes.{length-bytes}
 use Rattle.rules.proofs.Records.{length-records, sized-records, laid-records, laid-twice}
 use Rattle.rules.proofs.Memory.{all-sized, pending-kept}
-use Rattle.table.specs.Fields.{field, with-field, reach, raised}
+use Rattle.table.specs.Fields.{field, with-field, raised}
 use Rattle.table.proofs.Records.{sized-map}
 use Rattle.table.proofs.Sound.{Sound, laid-up}
 

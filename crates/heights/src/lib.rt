@@ -61,14 +61,7 @@ fn advance_heights(
     let mut i: u32 = 0;
     while i < n {
         i += 1;
-        s = advance_height(
-            s,
-            confirmed,
-            resolved,
-            pending,
-            recent,
-            Height(from + i),
-        );
+        s = advance_height(s, confirmed, resolved, pending, recent, Height(from + i));
     }
     s
 }

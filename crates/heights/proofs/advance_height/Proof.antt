@@ -1,6 +1,5 @@
 -- `heights::advance_height` meets its contract: the three calls leave what the law `advanced` asks for.
 -- Assumes nothing.
-use mathlib.Core.Path.{_≡_, ap}
 use borrow.Author.Needs.{needs}
 use native.Mathlib.Omega.{arith}
 use denote.Ref.{now}
@@ -10,11 +9,6 @@ use Rattle.ready.proofs.Facts.{confirmed-places, resolved-places}
 use Rattle.heights.proofs.Advance.{pending-room, recent-room, pending-well, advanced}
 use Rattle.heights.proofs.advance_height.Statement.{statement}
 use Rattle.heights.proofs.advance_height.Tie as tie
-use Rattle.heights.proofs.advance_height.Reads as reads
-use Rattle.heights.proofs.advance_height.Lts as lts
-use Rattle.counts.proofs.apply_decay.Reads as apply-decay-reads
-use Rattle.heights.proofs.expire.expire_pending.Reads as expire-pending-reads
-use Rattle.table.proofs.prune_confirmed.Reads as prune-confirmed-reads
 
 -- the memory at entry
 abbrev given : tie.Start → Lent

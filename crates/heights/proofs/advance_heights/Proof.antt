@@ -7,9 +7,6 @@ use Rattle.rules.specs.Memory.{Lent, lent}
 use Rattle.heights.proofs.Skip.{Going, start, ready-still, next, stop}
 use Rattle.heights.proofs.advance_heights.Statement.{statement}
 use Rattle.heights.proofs.advance_heights.Tie as tie
-use Rattle.heights.proofs.advance_heights.Reads as reads
-use Rattle.heights.proofs.advance_heights.Lts as lts
-use Rattle.heights.proofs.advance_height.Reads as advance-height-reads
 
 abbrev Inv-loop : tie.InvT-loop
 Inv-loop confirmed₀ resolved₀ pending₀ recent₀ n from s₀ i₀ confirmed resolved pending recent s i =

@@ -10,11 +10,6 @@ use Rattle.rules.specs.Board.{pending-of}
 use Rattle.heights.proofs.Expiry.{one-expired}
 use Rattle.heights.proofs.expire.expire_one.Statement.{statement}
 use Rattle.heights.proofs.expire.expire_one.Tie as tie
-use Rattle.heights.proofs.expire.expire_one.Reads as reads
-use Rattle.heights.proofs.expire.expire_one.Lts as lts
-use Rattle.counts.proofs.count_expiry.Reads as count-expiry-reads
-use Rattle.table.proofs.pending_at.Reads as pending-at-reads
-use Rattle.table.proofs.outwaited.Reads as outwaited-reads
 
 pending-at-requires : tie.Need-pending-at-requires
 pending-at-requires c κs = search needs

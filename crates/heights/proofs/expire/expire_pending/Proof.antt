@@ -9,11 +9,6 @@ use Rattle.table.proofs.Fields.{length-raised}
 use Rattle.heights.proofs.Tables.{changed-kept}
 use Rattle.heights.proofs.expire.expire_pending.Statement.{statement}
 use Rattle.heights.proofs.expire.expire_pending.Tie as tie
-use Rattle.heights.proofs.expire.expire_pending.Reads as reads
-use Rattle.heights.proofs.expire.expire_pending.Lts as lts
-use Rattle.heights.proofs.expire.expire_targets.Reads as expire-targets-reads
-use Rattle.table.proofs.drop_resolved.Reads as drop-resolved-reads
-use Rattle.table.proofs.raise_through.Reads as raise-through-reads
 
 expire-targets-requires : tie.Need-expire-targets-requires
 expire-targets-requires c κs = search needs
@@ -36,9 +31,11 @@ returns c =
     let lifted = c .before .before .before .before .before .before .raise-through in
     let expired = c .before .before .before .before .before .before .before .before .before .before .expire-targets in
     let s = c .before .before .before .before .before .before .before .before .before .before .before .before .before .before .before in
-    let a = s .args in
-    (expired .ensures, changed-kept (raised 1 (a .h .0)) (λ b. ltb (pending-of b .through) 25) 44 (a .used) (now (a .pending)) (lifted .last .0) (dropped .last .0) (dropped .result)
-    (length-raised 1 (a .h .0)) (s .pre .0 .1) (lifted .ensures) (dropped .ensures .0) (dropped .ensures .1))
+    let a = s .args in (
+      expired .ensures,
+      changed-kept (raised 1 (a .h .0)) (λ b. ltb (pending-of b .through) 25) 44 (a .used) (now (a .pending)) (lifted .last .0) (dropped .last .0) (dropped .result)
+          (length-raised 1 (a .h .0)) (s .pre .0 .1) (lifted .ensures) (dropped .ensures .0) (dropped .ensures .1),
+    )
 
 pub expire-pending-spec : {M : Type 1} → statement M
 expire-pending-spec =

@@ -6,9 +6,6 @@ use denote.Ref.{now}
 use Rattle.heights.proofs.Expiry.{bucket-at, Going, start, next, stop}
 use Rattle.heights.proofs.expire.expire_targets.Statement.{statement}
 use Rattle.heights.proofs.expire.expire_targets.Tie as tie
-use Rattle.heights.proofs.expire.expire_targets.Reads as reads
-use Rattle.heights.proofs.expire.expire_targets.Lts as lts
-use Rattle.heights.proofs.expire.expire_one.Reads as expire-one-reads
 
 abbrev Inv-loop : tie.InvT-loop
 Inv-loop resolved₀ pending used h i₀ resolved i = Going (h .0) used pending resolved₀ resolved i
