@@ -3,6 +3,7 @@
 use mathlib.Core.Path.{_≡_, refl, sym, ap, _∙_}
 use mathlib.Core.Bool.{true, false}
 use mathlib.Core.List.{List, [], _∷_, map}
+use mathlib.Core.Option.{none, some}
 use Prim.Native.Nat.{ℕ, suc, _+_, _-_, _*_, _^_, _≤_, _<_}
 use native.Mathlib.Nat.{mul-le-mul-right}
 use native.Mathlib.Omega.{arith}
@@ -13,7 +14,7 @@ use lib.Pow.{areBytes}
 use Rattle.rules.specs.Ids.{Id, rising}
 use Rattle.rules.specs.Records.{records, id-of, capacity, sound-table, laid}
 use Rattle.rules.specs.Board.{base, Confirmed, Kept, pending-size, pending-most, confirmed-size, confirmed-most, pending-of, confirmed-of, confirmed-bytes}
-use Rattle.rules.specs.Estimator.{is-pending, without, holds, become}
+use Rattle.rules.specs.Estimator.{is-pending, find, without, holds, become}
 use Rattle.rules.specs.Memory.{pending-records, confirmed-records, confirmed-capacity, lay-pending, lay-confirmed}
 use Rattle.rules.proofs.Ids.{dropped-absent}
 use Rattle.rules.proofs.Records.{Sized, length-records, sized-records, laid-records, laid-length}
@@ -28,7 +29,7 @@ use Rattle.table.proofs.Records.{length-ids, cap-room, sized-insert, sized-remo
 use Rattle.table.proofs.Search.{at-told, gap-told}
 use Rattle.table.proofs.Sound.{Sound, sound-told, sound-room, laid-up}
 use Rattle.table.proofs.Laid.{laid-same}
-use Rattle.table.proofs.Steps.{pending-missing, pending-there, pending-without, confirmed-not-held, confirmed-held, confirmed-new, confirmed-again}
+use Rattle.table.proofs.Steps.{pending-missing, pending-there, pending-found, pending-lost, pending-without, confirmed-not-held, confirmed-held, confirmed-new, confirmed-again}
 
 -- the elements of a slice of bytes are bytes
 pub are-bytes : (xs : List ℕ) → ((i : ℕ) → getD xs i 0 < 256) → T (areBytes xs)
@@ -78,6 +79,15 @@ module _ (i : Id) (used n : ℕ) (xs : List ℕ) (s : sound-table pending-size p
   pub missing : find-in i (map id-of (records pending-size used xs)) ≡ Gap n → false ≡ is-pending i (pending-records base used xs)
   unfolding pending-records
   missing f = sym (pending-missing i n (records pending-size used xs) (sound-told _ _ used xs s .rise) f)
+
+  -- the record that is found
+  pub found : find-in i (map id-of (records pending-size used xs)) ≡ At n → find i (pending-records base used xs) ≡ some (pending-of (getD (records pending-size used xs) n []))
+  unfolding pending-records
+  found f = pending-found i n (records pending-size used xs) f
+
+  pub lost : find-in i (map id-of (records pending-size used xs)) ≡ Gap n → find i (pending-records base used xs) ≡ none
+  unfolding pending-records
+  lost f = pending-lost i n (records pending-size used xs) (sound-told _ _ used xs s .rise) f
 
   -- the record of i goes
   pub removed : (ys : List ℕ) → T (areBytes ys) → find-in i (map id-of (records pending-size used xs)) ≡ At n → ys ≡ laid pending-size used (remove-at n (records pending-size used xs)) xs

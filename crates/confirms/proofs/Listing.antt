@@ -23,12 +23,17 @@ use Rattle.ready.specs.Ready.{Ready}
 use Rattle.ready.proofs.Ready.{ready-after, seen-after, step-after, step-none, same-recent}
 use Rattle.ready.proofs.Facts.{used-recent}
 
+-- the id that the code lends, from `at` to `at + 32`
+abbrev pub listed : ℕ → List ℕ → Id
+listed at xs = take (at + 32 - at) (drop at xs)
+
 -- the ids of what is left: one more, or none
-ids-more : (xs : List ℕ) (at : ℕ) → 32 ≤ length xs - at → ids-of (drop at xs) ≡ take 32 (drop at xs) ∷ ids-of (drop (at + 32) xs)
+ids-more : (xs : List ℕ) (at : ℕ) → 32 ≤ length xs - at → ids-of (drop at xs) ≡ listed at xs ∷ ids-of (drop (at + 32) xs)
 unfolding ids-of records
 ids-more xs at h =
     let n : length (drop at xs) / 32 ≡ suc (length (drop (at + 32) xs) / 32) = omega (arith, length-drop at xs, length-drop (at + 32) xs) in
-    rw n (ap (λ (ys : List ℕ). take 32 (drop at xs) ∷ records 32 (length (drop (at + 32) xs) / 32) ys) (drop-drop 32 at xs))
+    let k : 32 ≡ at + 32 - at = omega arith in
+    rw n (ap₂ (λ (k : ℕ) (ys : List ℕ). take k (drop at xs) ∷ records 32 (length (drop (at + 32) xs) / 32) ys) k (drop-drop 32 at xs))
 
 ids-none : (xs : List ℕ) (at : ℕ) → length xs - at < 32 → ids-of (drop at xs) ≡ []
 unfolding ids-of records
@@ -36,8 +41,10 @@ ids-none xs at h =
     let n : length (drop at xs) / 32 ≡ 0 = omega (arith, length-drop at xs) in
     rw n
 
-pub listed-length : (xs : List ℕ) (at : ℕ) → 32 ≤ length xs - at → length (take 32 (drop at xs)) ≡ 32
-listed-length xs at h = length-take-le 32 (drop at xs) (rw length-drop (omega arith))
+pub listed-length : (xs : List ℕ) (at : ℕ) → 32 ≤ length xs - at → length (listed at xs) ≡ 32
+listed-length xs at h =
+    let k : at + 32 - at ≡ 32 = omega arith in
+    rw k (length-take-le 32 (drop at xs) (rw length-drop (omega arith)))
 
 -- ---- how many of them pass a test
 
@@ -50,7 +57,7 @@ module _ (p : Id → Bool) (xs : List ℕ) where
   pub counting-none : Counting p xs 0 0
   counting-none = record { within = omega arith; few = omega arith; left = omega arith }
 
-  pub counting-more : (n m at : ℕ) (t : Bool) → Counting p xs n at → 32 ≤ length xs - at → t ≡ p (take 32 (drop at xs)) → m ≡ n + bit t → Counting p xs m (at + 32)
+  pub counting-more : (n m at : ℕ) (t : Bool) → Counting p xs n at → 32 ≤ length xs - at → t ≡ p (listed at xs) → m ≡ n + bit t → Counting p xs m (at + 32)
   unfolding count
   counting-more n m at t g h e q =
       let i : count p (ids-of (drop at xs)) ≡ bit t + count p (ids-of (drop (at + 32) xs)) = ap (count p) (ids-more xs at h) ∙ ap (λ (b : Bool). bit b + count p (ids-of (drop (at + 32) xs))) (sym e) in
@@ -86,17 +93,17 @@ module _ (B : ℕ) (xs : List ℕ) (s₀ : State) (l₀ : Lent) where
 
   module _ (at : ℕ) (s : State) (l : Lent) (g : Going B xs s₀ l₀ at s l) where
     -- there is room for the next one
-    pub room-for-one : 32 ≤ length xs - at → s .recent + bit (is-pending (take 32 (drop at xs)) (pending-records base (s .pending) (l .pending))) ≤ confirmed-capacity (l .recent)
+    pub room-for-one : 32 ≤ length xs - at → s .recent + bit (is-pending (listed at xs) (pending-records base (s .pending) (l .pending))) ≤ confirmed-capacity (l .recent)
     unfolding pending-listings count
     room-for-one h =
         let n = ap (count (λ i. is-pending i (pending-records base (s .pending) (l .pending)))) (ids-more xs at h) in
         omega (arith, g .room, n)
 
     pub going-more : (t : State) (m : Lent) → 32 ≤ length xs - at → B < 256 ^ 4 → Long l₀ m
-        → outcome done t m ≡ accepted base (confirm base B (take 32 (drop at xs)) (view base s l)) l → Going B xs s₀ l₀ (at + 32) t m
+        → outcome done t m ≡ accepted base (confirm base B (listed at xs) (view base s l)) l → Going B xs s₀ l₀ (at + 32) t m
     unfolding confirm-all pending-listings count state-of view
     going-more t m h k long q =
-        let i : Id = take 32 (drop at xs) in
+        let i : Id = listed at xs in
         let is : List Id = ids-of (drop (at + 32) xs) in
         let e : Estimator = confirm base B i (view base s l) in
         let w : Well e = well-confirm base B i (view base s l) (listed-length xs at h) k (g .ready .well) in

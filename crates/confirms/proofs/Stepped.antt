@@ -3,19 +3,20 @@ use mathlib.Core.Path.{_≡_, refl, sym, ap, ap₂, subst, _∙_}
 use mathlib.Core.Bool.{Bool, true, false, cond}
 use mathlib.Core.List.{List, [], _∷_, _++_}
 use mathlib.Core.Option.{Option, none, some}
-use Prim.Native.Nat.{ℕ, _*_, _≤_, _<_}
+use Prim.Native.Nat.{ℕ, _+_, _*_, _≤_, _<_}
 use native.Mathlib.Omega.{arith}
 use lib.Dec.{leb, ltb}
 use lib.ListN.{length, take, drop, take-append-drop}
 use lib.Ieee.{Float}
 use Rattle.kinds.specs.declared.State.{State}
 use Rattle.kinds.specs.Answers.{done}
+use Rattle.rules.specs.Lists.{bit}
 use Rattle.rules.specs.Ids.{Id, same}
 use Rattle.rules.specs.Counts.{Counts, places-of-counts, gain}
 use Rattle.rules.specs.Board.{base, Pending}
 use Rattle.rules.specs.Estimator.{Estimator, find, without, holds, become, wait, tx-left, record-confirmation, confirm}
 use Rattle.rules.specs.Memory.{Lent, lent, pending-records, confirmed-records, lay-pending, lay-confirmed, view, state-of, lay}
-use Rattle.rules.specs.Calls.{outcome, accepted}
+use Rattle.rules.specs.Calls.{Outcome, outcome, accepted}
 use Rattle.rules.proofs.All.{All, none as all-none, more}
 use Rattle.counts.proofs.Gain.{gain-first}
 use Rattle.ready.specs.Ready.{Ready}
@@ -31,6 +32,10 @@ of-found {P} i (more {a} {l} h hs) q e = go (same (a .id) i) e (of-found i hs q)
     go : (t : Bool) → cond t (some a) (find i l) ≡ some q → (find i l ≡ some q → P q) → P q
     go true e f = let z : a ≡ q = cc in subst P z h
     go false e f = f e
+
+-- an id that is pending has room for its confirmed record
+pub room-for-it : (n m : ℕ) (t : Bool) → true ≡ t → n + bit t ≤ m → n < m
+room-for-it n m t e h = let k : n + 1 ≤ m = rw (sym e) at h in omega arith
 
 module _ (s : State) (l : Lent) (r : Ready s l) (B : ℕ) (i : Id) where
   -- it is not pending
@@ -52,10 +57,10 @@ module _ (s : State) (l : Lent) (r : Ready s l) (B : ℕ) (i : Id) where
       rw e (cc)
 
   -- it does not: it is counted if it is pending
-  pub uncounted-not : holds i B (confirmed-records (s .recent) (l .recent)) ≡ false
-      → confirm base B i (view base s l) ≡ record-confirmation base B i (find i (pending-records base (s .pending) (l .pending))) (view base s l)
+  pub not-uncounted : holds i B (confirmed-records (s .recent) (l .recent)) ≡ false → {o : Outcome Lent}
+      → o ≡ accepted base (record-confirmation base B i (find i (pending-records base (s .pending) (l .pending))) (view base s l)) l → o ≡ accepted base (confirm base B i (view base s l)) l
   unfolding confirm view
-  uncounted-not e = rw e
+  not-uncounted e q = rw e q
 
   module _ (q : Pending) (e : find i (pending-records base (s .pending) (l .pending)) ≡ some q) where
     -- its bucket is one of the 142

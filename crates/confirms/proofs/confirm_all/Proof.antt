@@ -1,5 +1,6 @@
--- `confirms::confirm_all` meets its contract. Assumes nothing.
-use Prim.Native.Nat.{_-_}
+use mathlib.Core.Path.{_∙_}
+use Prim.Native.Nat.{_-_, _≤_}
+use denote.Ref.{now}
 use native.Mathlib.Omega.{arith}
 use lib.ListN.{length}
 use Rattle.rules.specs.Memory.{lent}
@@ -18,61 +19,60 @@ abbrev μ-loop : tie.MeasureT-loop
 μ-loop confirmed₀ resolved₀ pending₀ recent₀ ids h s₀ at₀ confirmed resolved pending recent s at =
     length ids - at
 
--- src/lib.rt:58:5
 loop-holds : tie.Need-loop-holds Inv-loop μ-loop
-loop-holds c = ?
+loop-holds c = let s = c .before .before .before .before .before in going-none _ _ _ _ (s .pre .0) (s .pre .1)
 
--- src/lib.rt:58:17
 sub-loop : tie.Need-sub-loop Inv-loop μ-loop
-sub-loop c = ?
+sub-loop c = omega arith
 
--- src/lib.rt:59:19
 add-end : tie.Need-add-end Inv-loop μ-loop
-add-end c = ?
+add-end c = omega arith
 
--- src/lib.rt:60:62
 sub-confirm : tie.Need-sub-confirm Inv-loop μ-loop
-sub-confirm c = ?
+sub-confirm c = omega arith
 
--- src/lib.rt:60:62
 part-confirm-start : tie.Need-part-confirm-start Inv-loop μ-loop
-part-confirm-start c = ?
+part-confirm-start c = omega arith
 
--- src/lib.rt:60:62
 part-confirm-end : tie.Need-part-confirm-end Inv-loop μ-loop
-part-confirm-end c = ?
+part-confirm-end c = omega arith
 
--- src/lib.rt:60:9
 confirm-requires : tie.Need-confirm-requires Inv-loop μ-loop
-confirm-requires c κs = ?
+confirm-requires c κs =
+    let g = c .before .before .before .before .before .before .loop in
+    let left : 32 ≤ length (now (c .before .before .before .before .before .before .before .before .before .before .before .before .args .ids)) - g .at = c .before .before .before .before .before .loop-test .taken in
+    (g .inv .ready, (room-for-one _ _ _ _ (g .at) _ _ (g .inv) left, listed-length (now (c .before .before .before .before .before .before .before .before .before .before .before .before .args .ids)) (g .at) left))
 
--- src/lib.rt:58:5
 loop-less : tie.Need-loop-less Inv-loop μ-loop
-loop-less c = ?
+loop-less c = omega arith
 
--- src/lib.rt:58:5
 loop-again : tie.Need-loop-again Inv-loop μ-loop
-loop-again c = ?
+loop-again c =
+    let k = c .before .before .before .before .before .before .before .before .confirm in
+    let g = c .before .before .before .before .before .before .before .before .before .before .before .before .before .before .before .loop in
+    going-more _ _ _ _ (g .at) _ _ (g .inv) _ _ (c .before .before .before .before .before .before .before .before .before .before .before .before .before .before .loop-test .taken) (omega (arith, c .before .before .before .before .before .before .before .before .before .before .before .before .before .before .before .before .before .before .before .before .before .good))
+    (record {
+      confirmed = k .kept .1 .0 ∙ g .inv .long .confirmed;
+      resolved = k .kept .1 .1 .0 ∙ g .inv .long .resolved;
+      pending = k .kept .1 .1 .1 .0 ∙ g .inv .long .pending;
+      recent = k .kept .1 .1 .1 .1 .0 ∙ g .inv .long .recent;
+    })
+    (k .ensures)
 
--- src/lib.rt:40:1
 same-length : tie.Need-same-length Inv-loop μ-loop
-same-length c = ?
+same-length c = c .before .loop .inv .long .confirmed
 
--- src/lib.rt:40:1
 same-length-2 : tie.Need-same-length-2 Inv-loop μ-loop
-same-length-2 c = ?
+same-length-2 c = c .before .loop .inv .long .resolved
 
--- src/lib.rt:40:1
 same-length-3 : tie.Need-same-length-3 Inv-loop μ-loop
-same-length-3 c = ?
+same-length-3 c = c .before .loop .inv .long .pending
 
--- src/lib.rt:40:1
 same-length-4 : tie.Need-same-length-4 Inv-loop μ-loop
-same-length-4 c = ?
+same-length-4 c = c .before .loop .inv .long .recent
 
--- src/lib.rt:40:1
 returns : tie.Need-returns Inv-loop μ-loop
-returns c = ?
+returns c = going-all _ _ _ _ (c .before .loop .at) _ _ (c .before .loop .inv) (c .loop-test .left)
 
 pub confirm-all-spec : {M : Type 1} → statement M
 confirm-all-spec =

@@ -1,5 +1,7 @@
--- `confirms::pending_listings` meets its contract. Assumes nothing.
+use mathlib.Core.Path.{refl, sym, _∙_}
+use mathlib.Core.Bool.{true, false}
 use Prim.Native.Nat.{_-_}
+use denote.Ref.{now}
 use native.Mathlib.Omega.{arith}
 use lib.ListN.{length}
 use Rattle.rules.specs.Board.{base}
@@ -18,57 +20,44 @@ Inv-loop pending used ids n₀ at₀ n at = Counting (λ i. is-pending i (pendin
 abbrev μ-loop : tie.MeasureT-loop
 μ-loop pending used ids n₀ at₀ n at = length ids - at
 
--- src/lib.rt:29:5
 loop-holds : tie.Need-loop-holds Inv-loop μ-loop
-loop-holds c = ?
+loop-holds c = counting-none _ _
 
--- src/lib.rt:29:17
 sub-loop : tie.Need-sub-loop Inv-loop μ-loop
-sub-loop c = ?
+sub-loop c = omega arith
 
--- src/lib.rt:30:19
 add-end : tie.Need-add-end Inv-loop μ-loop
-add-end c = ?
+add-end c = omega arith
 
--- src/lib.rt:31:38
 sub-is-pending : tie.Need-sub-is-pending Inv-loop μ-loop
-sub-is-pending c = ?
+sub-is-pending c = omega arith
 
--- src/lib.rt:31:38
 part-is-pending-start : tie.Need-part-is-pending-start Inv-loop μ-loop
-part-is-pending-start c = ?
+part-is-pending-start c = omega arith
 
--- src/lib.rt:31:38
 part-is-pending-end : tie.Need-part-is-pending-end Inv-loop μ-loop
-part-is-pending-end c = ?
+part-is-pending-end c = omega arith
 
--- src/lib.rt:31:12
 is-pending-requires : tie.Need-is-pending-requires Inv-loop μ-loop
-is-pending-requires c κs = ?
+is-pending-requires c κs = (c .before .before .before .before .before .pre, listed-length (now (c .before .before .before .before .before .args .ids)) (c .before .before .loop .at) (omega arith))
 
--- src/lib.rt:32:13
 add-n : tie.Need-add-n Inv-loop μ-loop
-add-n c = ?
+add-n c = omega arith
 
--- src/lib.rt:29:5
 loop-less : tie.Need-loop-less Inv-loop μ-loop
-loop-less c = ?
+loop-less c = omega arith
 
--- src/lib.rt:29:5
 loop-again : tie.Need-loop-again Inv-loop μ-loop
-loop-again c = ?
+loop-again c = counting-more _ _ (c .before .before .before .before .loop .n) _ (c .before .before .before .before .loop .at) true (c .before .before .before .before .loop .inv) (omega arith) (sym (c .if1 .taken) ∙ c .before .is-pending .ensures) refl
 
--- src/lib.rt:29:5
 loop-less-2 : tie.Need-loop-less-2 Inv-loop μ-loop
-loop-less-2 c = ?
+loop-less-2 c = omega arith
 
--- src/lib.rt:29:5
 loop-again-2 : tie.Need-loop-again-2 Inv-loop μ-loop
-loop-again-2 c = ?
+loop-again-2 c = counting-more _ _ (c .before .before .before .before .loop .n) _ (c .before .before .before .before .loop .at) false (c .before .before .before .before .loop .inv) (omega arith) (sym (c .if1 .left) ∙ c .before .is-pending .ensures) (omega arith)
 
--- src/lib.rt:23:1
 returns : tie.Need-returns Inv-loop μ-loop
-returns c = ?
+returns c = counting-all _ _ _ (c .before .loop .at) (c .before .loop .inv) (omega arith)
 
 pub pending-listings-spec : {M : Type 1} → statement M
 pending-listings-spec =

@@ -1,3 +1,10 @@
+-- `confirms::step::count` meets its contract. Assumes nothing.
+use mathlib.Core.Path.{_≡_, ap, _∙_}
+use mathlib.Core.Bool.{Bool}
+use Prim.Native.Nat.{ℕ, _*_}
+use lib.Dec.{leb}
+use denote.Ref.{now}
+use Rattle.rules.proofs.Counting.{gain-agree}
 use borrow.Author.Needs.{needs}
 use Rattle.confirms.proofs.step.count.Statement.{statement}
 use Rattle.confirms.proofs.step.count.Tie as tie
@@ -7,33 +14,31 @@ use Rattle.confirms.proofs.step.waited.Reads as waited-reads
 use Rattle.counts.proofs.count_confirmation.Reads as count-confirmation-reads
 use Rattle.counts.proofs.first_column.Reads as first-column-reads
 
--- src/step.rt:44:38
 waited-requires : tie.Need-waited-requires
 waited-requires c κs = search needs
 
--- src/step.rt:44:9
 first-column-requires : tie.Need-first-column-requires
 first-column-requires c κs = search needs
 
--- src/step.rt:45:53
 cast-count-confirmation : tie.Need-cast-count-confirmation
 cast-count-confirmation c = search needs
 
--- src/step.rt:45:5
 count-confirmation-requires : tie.Need-count-confirmation-requires
 count-confirmation-requires c κs = search needs
 
--- src/step.rt:37:1
 same-length : tie.Need-same-length
 same-length c = search needs
 
--- src/step.rt:37:1
 same-length-2 : tie.Need-same-length-2
 same-length-2 c = search needs
 
--- src/step.rt:37:1
 returns : tie.Need-returns
-returns c = ?
+returns c =
+    let n = c .before .before .before .before .before .before .before in
+    let k = c .before .before .before .before .count-confirmation in (
+      k .ensures .0 ∙ gain-agree _ _ _ _ (λ i _. n .first-column .ensures i ∙ ap (λ (w : ℕ). leb w (1 * i)) (n .before .waited .ensures)),
+      k .ensures .1,
+    )
 
 pub count-spec : {M : Type 1} → statement M
 count-spec =
