@@ -1,0 +1,166 @@
+-- What a search of one table tells, and what an edit of it leaves: the rules' records, laid. Whatever was edited, the slice still holds bytes, so its
+-- records are those of their bytes; and `table` says which records they are. Assumes nothing.
+use mathlib.Core.Path.{_≡_, refl, sym, ap, _∙_}
+use mathlib.Core.Bool.{true, false}
+use mathlib.Core.List.{List, [], _∷_, map}
+use mathlib.Core.Option.{none, some}
+use Prim.Native.Nat.{ℕ, suc, _+_, _-_, _*_, _^_, _≤_, _<_}
+use native.Mathlib.Nat.{mul-le-mul-right}
+use native.Mathlib.Omega.{arith}
+use lib.Dec.{T, ltb, eqb, lt→ltb}
+use lib.Ieee.Fits.{and-i}
+use lib.ListN.{length, getD, set, length-map, length-append, length-take, length-drop, length-set}
+use lib.Pow.{areBytes}
+use Rattle.rules.specs.Ids.{Id, rising}
+use Rattle.rules.specs.Records.{records, id-of, capacity, sound-table, laid}
+use Rattle.rules.specs.Board.{base, Confirmed, Kept, pending-size, pending-most, confirmed-size, confirmed-most, pending-of, confirmed-of, confirmed-bytes}
+use Rattle.rules.specs.Estimator.{is-pending, find, without, holds, become}
+use Rattle.rules.specs.Memory.{pending-records, confirmed-records, confirmed-capacity, lay-pending, lay-confirmed}
+use Rattle.rules.proofs.Ids.{dropped-absent}
+use Rattle.rules.proofs.Records.{Sized, length-records, sized-records, laid-records, laid-length}
+use Rattle.rules.proofs.Memory.{pending-kept, confirmed-kept, ConfirmedFits, forth-records}
+use Rattle.table.specs.Search.{find-in}
+use Rattle.table.specs.Edit.{insert-at, remove-at}
+use Rattle.table.specs.Fields.{with-field}
+use Rattle.table.specs.declared.Found.{Found}
+use Rattle.table.specs.declared.Found.the-variants.{At, Gap}
+use Rattle.table.proofs.Fields.{length-with-field}
+use Rattle.table.proofs.Records.{length-ids, cap-room, sized-insert, sized-remove, sized-set, sized-at}
+use Rattle.table.proofs.Search.{at-told, gap-told}
+use Rattle.table.proofs.Sound.{Sound, sound-told, sound-room, laid-up}
+use Rattle.table.proofs.Laid.{laid-same}
+use Rattle.table.proofs.Steps.{pending-missing, pending-there, pending-found, pending-lost, pending-without, confirmed-not-held, confirmed-held, confirmed-new, confirmed-again}
+
+-- the elements of a slice of bytes are bytes
+pub are-bytes : (xs : List ℕ) → ((i : ℕ) → getD xs i 0 < 256) → T (areBytes xs)
+are-bytes [] h = tt
+are-bytes (x ∷ xs) h = and-i (ltb x 256) (areBytes xs) (lt→ltb x 256 (h 0)) (are-bytes xs (λ i. h (suc i)))
+
+-- ---- any table
+
+-- what a search asks of a sound one
+pub searchable : (size most used : ℕ) (xs i : List ℕ) → 32 ≤ size → sound-table size most used xs ≡ true → length i ≡ 32
+    → ((32 ≤ size) × (used * size ≤ length xs)) × ((rising (map id-of (records size used xs)) ≡ true) × (length i ≡ 32))
+searchable size most used xs i h s e = let g = sound-told size most used xs s in ((h, sound-room size most used xs g), (g .rise, e))
+
+-- a record that is found is a used one, and a place that is found is among them or after them
+pub at-used : (size used n : ℕ) (xs : List ℕ) (i : Id) → find-in i (map id-of (records size used xs)) ≡ At n → n < used
+at-used size used n xs i f = let t = at-told i (map id-of (records size used xs)) n f in omega (arith, t .within, length-ids size used xs)
+
+pub gap-used : (size used n : ℕ) (xs : List ℕ) (i : Id) → find-in i (map id-of (records size used xs)) ≡ Gap n → n ≤ used
+gap-used size used n xs i f = let t = gap-told i (map id-of (records size used xs)) n f in omega (arith, t .within, length-ids size used xs)
+
+module _ {A : Type 0} {size : ℕ} {to : A → List ℕ} {from : List ℕ → A} {Fits : A → Type 0} (k : Kept A size to from Fits) where
+  -- the records bs in n places, which hold qs
+  pub edited : (most used n : ℕ) (bs : List (List ℕ)) (qs : List A) (xs ys : List ℕ) → sound-table size most used xs ≡ true → T (areBytes ys)
+      → used ≤ n → n ≤ capacity size most xs → length bs ≤ n → Sized size bs → map from bs ≡ qs → ys ≡ laid size n bs xs
+      → ys ≡ laid size (capacity size most xs) (map to qs) xs
+  edited most used n bs qs xs ys s b u l h z e q =
+      let room : n * size ≤ length xs = (let r = cap-room size most n _ xs refl l in omega arith) in
+      let long : length ys ≡ length xs = ap length q ∙ laid-length size n bs xs z h room in
+      let there : records size (length bs) ys ≡ bs = ap (records size (length bs)) q ∙ laid-records size n bs xs z in
+      let again : map to (map from bs) ≡ bs = ap (λ (r : List (List ℕ)). map to (map from r)) (sym there) ∙ forth-records k (length bs) ys (omega (arith, mul-le-mul-right size h)) b ∙ there in
+      q ∙ laid-up size most used n bs xs (sound-told size most used xs s) h u l ∙ ap (λ (r : List (List ℕ)). laid size (capacity size most xs) r xs) (sym again ∙ ap (map to) e)
+
+  -- nothing was edited
+  pub unedited : (most used : ℕ) (xs : List ℕ) → sound-table size most used xs ≡ true → T (areBytes xs) → xs ≡ laid size (capacity size most xs) (map to (map from (records size used xs))) xs
+  unedited most used xs s b =
+      let g = sound-told size most used xs s in
+      let room = sound-room size most used xs g in
+      edited most used used (records size used xs) (map from (records size used xs)) xs xs s b (omega arith) (g .fit) (omega (arith, length-records size used xs)) (sized-records size used xs room) refl (sym (laid-same size used xs room))
+
+-- ---- the pending table
+
+module _ (i : Id) (used n : ℕ) (xs : List ℕ) (s : sound-table pending-size pending-most used xs ≡ true) where
+  pub there : find-in i (map id-of (records pending-size used xs)) ≡ At n → true ≡ is-pending i (pending-records base used xs)
+  unfolding pending-records
+  there f = sym (pending-there i n (records pending-size used xs) f)
+
+  pub missing : find-in i (map id-of (records pending-size used xs)) ≡ Gap n → false ≡ is-pending i (pending-records base used xs)
+  unfolding pending-records
+  missing f = sym (pending-missing i n (records pending-size used xs) (sound-told _ _ used xs s .rise) f)
+
+  -- the record that is found
+  pub found : find-in i (map id-of (records pending-size used xs)) ≡ At n → find i (pending-records base used xs) ≡ some (pending-of (getD (records pending-size used xs) n []))
+  unfolding pending-records
+  found f = pending-found i n (records pending-size used xs) f
+
+  pub lost : find-in i (map id-of (records pending-size used xs)) ≡ Gap n → find i (pending-records base used xs) ≡ none
+  unfolding pending-records
+  lost f = pending-lost i n (records pending-size used xs) (sound-told _ _ used xs s .rise) f
+
+  -- the record of i goes
+  pub removed : (ys : List ℕ) → T (areBytes ys) → find-in i (map id-of (records pending-size used xs)) ≡ At n → ys ≡ laid pending-size used (remove-at n (records pending-size used xs)) xs
+      → (used - 1 ≡ length (without i (pending-records base used xs))) × (ys ≡ lay-pending base (without i (pending-records base used xs)) xs)
+  unfolding pending-records lay-pending remove-at
+  removed ys b f q =
+      let g = sound-told pending-size pending-most used xs s in
+      let rs : List (List ℕ) = records pending-size used xs in
+      let many : length rs ≡ used = length-records pending-size used xs in
+      let m : n < used = at-used pending-size used n xs i f in
+      let fewer : length (remove-at n rs) ≡ used - 1 = simp (length-append, length-take, length-drop) (omega arith) in
+      let e : map pending-of (remove-at n rs) ≡ without i (map pending-of rs) = pending-without i n rs (g .rise) f in (
+        sym (ap length (sym e) ∙ length-map (remove-at n rs) pending-of ∙ fewer),
+        edited pending-kept pending-most used used (remove-at n rs) _ xs ys s b (omega arith) (g .fit) (omega arith)
+            (sized-remove pending-size n rs (sized-records pending-size used xs (sound-room pending-size pending-most used xs g))) e q,
+      )
+
+  -- there is none
+  pub unmoved : T (areBytes xs) → find-in i (map id-of (records pending-size used xs)) ≡ Gap n
+      → (used ≡ length (without i (pending-records base used xs))) × (xs ≡ lay-pending base (without i (pending-records base used xs)) xs)
+  unfolding pending-records lay-pending is-pending
+  unmoved b f =
+      let rs : List (List ℕ) = records pending-size used xs in
+      let e : without i (map pending-of rs) ≡ map pending-of rs = dropped-absent (λ r. r .id) i (map pending-of rs) (sym (missing f)) in
+      rw e (sym (length-map rs pending-of ∙ length-records pending-size used xs), unedited pending-kept pending-most used xs s b)
+
+-- ---- the confirmed table
+
+module _ (i : Id) (used n : ℕ) (xs : List ℕ) (s : sound-table confirmed-size confirmed-most used xs ≡ true) (h : ℕ) where
+  pub held : find-in i (map id-of (records confirmed-size used xs)) ≡ At n → (old : ℕ) → old ≡ confirmed-of (getD (records confirmed-size used xs) n []) .height
+      → eqb old h ≡ holds i h (confirmed-records used xs)
+  unfolding confirmed-records
+  held f old e = rw e (sym (confirmed-held i n (records confirmed-size used xs) (sound-told _ _ used xs s .rise) h f))
+
+  pub not-held : find-in i (map id-of (records confirmed-size used xs)) ≡ Gap n → false ≡ holds i h (confirmed-records used xs)
+  unfolding confirmed-records
+  not-held f = sym (confirmed-not-held i n (records confirmed-size used xs) (sound-told _ _ used xs s .rise) h f)
+
+  module _ (ys : List ℕ) (b : T (areBytes ys)) (small : h < 256 ^ 4) where
+    -- a new record
+    pub noted-new : length i ≡ 32 → used < confirmed-capacity xs → find-in i (map id-of (records confirmed-size used xs)) ≡ Gap n
+        → ys ≡ laid confirmed-size (used + 1) (insert-at n (confirmed-bytes (record { id = i; height = h })) (records confirmed-size used xs)) xs
+        → (used + 1 ≡ length (become i h (confirmed-records used xs))) × (ys ≡ lay-confirmed (become i h (confirmed-records used xs)) xs)
+    unfolding confirmed-records lay-confirmed insert-at
+    noted-new l room f q =
+        let g = sound-told confirmed-size confirmed-most used xs s in
+        let rs : List (List ℕ) = records confirmed-size used xs in
+        let new : Confirmed = record { id = i; height = h } in
+        let fine : ConfirmedFits new = record { id = l; height = small } in
+        let many : length rs ≡ used = length-records confirmed-size used xs in
+        let m : n ≤ used = gap-used confirmed-size used n xs i f in
+        let more : length (insert-at n (confirmed-bytes new) rs) ≡ used + 1 = simp (length-append, length-take, length-drop) (omega arith) in
+        let e : map confirmed-of (insert-at n (confirmed-bytes new) rs) ≡ become i h (map confirmed-of rs) = confirmed-new i n rs (g .rise) h (confirmed-bytes new) (confirmed-kept .back new fine) f in (
+          sym (ap length (sym e) ∙ length-map (insert-at n (confirmed-bytes new) rs) confirmed-of ∙ more),
+          edited confirmed-kept confirmed-most used (used + 1) (insert-at n (confirmed-bytes new) rs) _ xs ys s b (omega arith) (omega arith) (omega arith)
+              (sized-insert confirmed-size n (confirmed-bytes new) rs (confirmed-kept .sized new fine) (sized-records confirmed-size used xs (sound-room confirmed-size confirmed-most used xs g))) e q,
+        )
+
+    -- another height in the record of i
+    pub noted-again : find-in i (map id-of (records confirmed-size used xs)) ≡ At n
+        → ys ≡ laid confirmed-size used (set (records confirmed-size used xs) n (with-field 32 h (getD (records confirmed-size used xs) n []))) xs
+        → (used ≡ length (become i h (confirmed-records used xs))) × (ys ≡ lay-confirmed (become i h (confirmed-records used xs)) xs)
+    unfolding confirmed-records lay-confirmed
+    noted-again f q =
+        let g = sound-told confirmed-size confirmed-most used xs s in
+        let rs : List (List ℕ) = records confirmed-size used xs in
+        let new : List ℕ = with-field 32 h (getD rs n []) in
+        let z : Sized confirmed-size rs = sized-records confirmed-size used xs (sound-room confirmed-size confirmed-most used xs g) in
+        let many : length rs ≡ used = length-records confirmed-size used xs in
+        let m : n < used = at-used confirmed-size used n xs i f in
+        let size : length new ≡ confirmed-size = length-with-field 32 h (getD rs n []) ∙ sized-at confirmed-size n rs z (omega arith) in
+        let as-many : length (set rs n new) ≡ used = length-set rs n new ∙ many in
+        let e : map confirmed-of (set rs n new) ≡ become i h (map confirmed-of rs) = confirmed-again i n rs (g .rise) h z small f in (
+          sym (ap length (sym e) ∙ length-map (set rs n new) confirmed-of ∙ as-many),
+          edited confirmed-kept confirmed-most used used (set rs n new) _ xs ys s b (omega arith) (g .fit) (omega arith) (sized-set confirmed-size n new rs size z) e q,
+        )

@@ -1,0 +1,3 @@
+pub mod Edited
+pub mod Stepped
+pub mod Listing

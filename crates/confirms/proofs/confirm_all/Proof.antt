@@ -1,0 +1,96 @@
+use mathlib.Core.Path.{_∙_}
+use Prim.Native.Nat.{_-_, _≤_}
+use denote.Ref.{now}
+use native.Mathlib.Omega.{arith}
+use lib.ListN.{length}
+use Rattle.rules.specs.Memory.{lent}
+use Rattle.confirms.proofs.Listing.{Going, going-none, going-more, going-all, room-for-one, listed-length}
+use Rattle.confirms.proofs.confirm_all.Statement.{statement}
+use Rattle.confirms.proofs.confirm_all.Tie as tie
+use Rattle.confirms.proofs.confirm_all.Reads as reads
+use Rattle.confirms.proofs.confirm_all.Lts as lts
+use Rattle.confirms.proofs.step.confirm.Reads as confirm-reads
+
+abbrev Inv-loop : tie.InvT-loop
+Inv-loop confirmed₀ resolved₀ pending₀ recent₀ ids h s₀ at₀ confirmed resolved pending recent s at =
+    Going (h .0) ids s₀ (lent confirmed₀ resolved₀ pending₀ recent₀) at s (lent confirmed resolved pending recent)
+
+abbrev μ-loop : tie.MeasureT-loop
+μ-loop confirmed₀ resolved₀ pending₀ recent₀ ids h s₀ at₀ confirmed resolved pending recent s at =
+    length ids - at
+
+loop-holds : tie.Need-loop-holds Inv-loop μ-loop
+loop-holds c = let s = c .before .before .before .before .before in going-none _ _ _ _ (s .pre .0) (s .pre .1)
+
+sub-loop : tie.Need-sub-loop Inv-loop μ-loop
+sub-loop c = omega arith
+
+add-end : tie.Need-add-end Inv-loop μ-loop
+add-end c = omega arith
+
+sub-confirm : tie.Need-sub-confirm Inv-loop μ-loop
+sub-confirm c = omega arith
+
+part-confirm-start : tie.Need-part-confirm-start Inv-loop μ-loop
+part-confirm-start c = omega arith
+
+part-confirm-end : tie.Need-part-confirm-end Inv-loop μ-loop
+part-confirm-end c = omega arith
+
+confirm-requires : tie.Need-confirm-requires Inv-loop μ-loop
+confirm-requires c κs =
+    let g = c .before .before .before .before .before .before .loop in
+    let left : 32 ≤ length (now (c .before .before .before .before .before .before .before .before .before .before .before .before .args .ids)) - g .at = c .before .before .before .before .before .loop-test .taken in
+    (g .inv .ready, (room-for-one _ _ _ _ (g .at) _ _ (g .inv) left, listed-length (now (c .before .before .before .before .before .before .before .before .before .before .before .before .args .ids)) (g .at) left))
+
+loop-less : tie.Need-loop-less Inv-loop μ-loop
+loop-less c = omega arith
+
+loop-again : tie.Need-loop-again Inv-loop μ-loop
+loop-again c =
+    let k = c .before .before .before .before .before .before .before .before .confirm in
+    let g = c .before .before .before .before .before .before .before .before .before .before .before .before .before .before .before .loop in
+    going-more _ _ _ _ (g .at) _ _ (g .inv) _ _ (c .before .before .before .before .before .before .before .before .before .before .before .before .before .before .loop-test .taken) (omega (arith, c .before .before .before .before .before .before .before .before .before .before .before .before .before .before .before .before .before .before .before .before .before .good))
+    (record {
+      confirmed = k .kept .1 .0 ∙ g .inv .long .confirmed;
+      resolved = k .kept .1 .1 .0 ∙ g .inv .long .resolved;
+      pending = k .kept .1 .1 .1 .0 ∙ g .inv .long .pending;
+      recent = k .kept .1 .1 .1 .1 .0 ∙ g .inv .long .recent;
+    })
+    (k .ensures)
+
+same-length : tie.Need-same-length Inv-loop μ-loop
+same-length c = c .before .loop .inv .long .confirmed
+
+same-length-2 : tie.Need-same-length-2 Inv-loop μ-loop
+same-length-2 c = c .before .loop .inv .long .resolved
+
+same-length-3 : tie.Need-same-length-3 Inv-loop μ-loop
+same-length-3 c = c .before .loop .inv .long .pending
+
+same-length-4 : tie.Need-same-length-4 Inv-loop μ-loop
+same-length-4 c = c .before .loop .inv .long .recent
+
+returns : tie.Need-returns Inv-loop μ-loop
+returns c = going-all _ _ _ _ (c .before .loop .at) _ _ (c .before .loop .inv) (c .loop-test .left)
+
+pub confirm-all-spec : {M : Type 1} → statement M
+confirm-all-spec =
+    tie.close
+    (tie.spec
+    Inv-loop
+    μ-loop
+    loop-holds
+    sub-loop
+    add-end
+    sub-confirm
+    part-confirm-start
+    part-confirm-end
+    confirm-requires
+    loop-less
+    loop-again
+    same-length
+    same-length-2
+    same-length-3
+    same-length-4
+    returns)

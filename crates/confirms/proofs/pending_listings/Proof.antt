@@ -1,0 +1,80 @@
+use mathlib.Core.Path.{refl, sym, _∙_}
+use mathlib.Core.Bool.{true, false}
+use Prim.Native.Nat.{_-_}
+use denote.Ref.{now}
+use native.Mathlib.Omega.{arith}
+use lib.ListN.{length}
+use Rattle.rules.specs.Board.{base}
+use Rattle.rules.specs.Estimator.{is-pending}
+use Rattle.rules.specs.Memory.{pending-records}
+use Rattle.confirms.proofs.Listing.{Counting, counting-none, counting-more, counting-all, listed-length}
+use Rattle.confirms.proofs.pending_listings.Statement.{statement}
+use Rattle.confirms.proofs.pending_listings.Tie as tie
+use Rattle.confirms.proofs.pending_listings.Reads as reads
+use Rattle.confirms.proofs.pending_listings.Lts as lts
+use Rattle.confirms.proofs.tables.is_pending.Reads as is-pending-reads
+
+abbrev Inv-loop : tie.InvT-loop
+Inv-loop pending used ids n₀ at₀ n at = Counting (λ i. is-pending i (pending-records base used pending)) ids n at
+
+abbrev μ-loop : tie.MeasureT-loop
+μ-loop pending used ids n₀ at₀ n at = length ids - at
+
+loop-holds : tie.Need-loop-holds Inv-loop μ-loop
+loop-holds c = counting-none _ _
+
+sub-loop : tie.Need-sub-loop Inv-loop μ-loop
+sub-loop c = omega arith
+
+add-end : tie.Need-add-end Inv-loop μ-loop
+add-end c = omega arith
+
+sub-is-pending : tie.Need-sub-is-pending Inv-loop μ-loop
+sub-is-pending c = omega arith
+
+part-is-pending-start : tie.Need-part-is-pending-start Inv-loop μ-loop
+part-is-pending-start c = omega arith
+
+part-is-pending-end : tie.Need-part-is-pending-end Inv-loop μ-loop
+part-is-pending-end c = omega arith
+
+is-pending-requires : tie.Need-is-pending-requires Inv-loop μ-loop
+is-pending-requires c κs = (c .before .before .before .before .before .pre, listed-length (now (c .before .before .before .before .before .args .ids)) (c .before .before .loop .at) (omega arith))
+
+add-n : tie.Need-add-n Inv-loop μ-loop
+add-n c = omega arith
+
+loop-less : tie.Need-loop-less Inv-loop μ-loop
+loop-less c = omega arith
+
+loop-again : tie.Need-loop-again Inv-loop μ-loop
+loop-again c = counting-more _ _ (c .before .before .before .before .loop .n) _ (c .before .before .before .before .loop .at) true (c .before .before .before .before .loop .inv) (omega arith) (sym (c .if1 .taken) ∙ c .before .is-pending .ensures) refl
+
+loop-less-2 : tie.Need-loop-less-2 Inv-loop μ-loop
+loop-less-2 c = omega arith
+
+loop-again-2 : tie.Need-loop-again-2 Inv-loop μ-loop
+loop-again-2 c = counting-more _ _ (c .before .before .before .before .loop .n) _ (c .before .before .before .before .loop .at) false (c .before .before .before .before .loop .inv) (omega arith) (sym (c .if1 .left) ∙ c .before .is-pending .ensures) (omega arith)
+
+returns : tie.Need-returns Inv-loop μ-loop
+returns c = counting-all _ _ _ (c .before .loop .at) (c .before .loop .inv) (omega arith)
+
+pub pending-listings-spec : {M : Type 1} → statement M
+pending-listings-spec =
+    tie.close
+    (tie.spec
+    Inv-loop
+    μ-loop
+    loop-holds
+    sub-loop
+    add-end
+    sub-is-pending
+    part-is-pending-start
+    part-is-pending-end
+    is-pending-requires
+    add-n
+    loop-less
+    loop-again
+    loop-less-2
+    loop-again-2
+    returns)

@@ -1,0 +1,66 @@
+-- `confirms::step::confirm` meets its contract. Assumes nothing.
+use mathlib.Core.Path.{sym, _∙_}
+use Rattle.ready.proofs.Facts.{pending-sound, recent-sound}
+use Rattle.confirms.proofs.Stepped.{uncounted, not-uncounted}
+use borrow.Author.Needs.{needs}
+use Rattle.confirms.proofs.step.confirm.Statement.{statement}
+use Rattle.confirms.proofs.step.confirm.Tie as tie
+use Rattle.confirms.proofs.step.confirm.Reads as reads
+use Rattle.confirms.proofs.step.confirm.Lts as lts
+use Rattle.confirms.proofs.step.record_confirmation.Reads as record-confirmation-reads
+use Rattle.confirms.proofs.tables.forget.Reads as forget-reads
+use Rattle.confirms.proofs.tables.holds.Reads as holds-reads
+
+holds-requires : tie.Need-holds-requires
+holds-requires c κs = let s = c .before .before .before .before .before .before in (recent-sound _ _ (s .pre .0), s .pre .1 .1)
+
+forget-requires : tie.Need-forget-requires
+forget-requires c κs = let s = c .before .before .before .before .before .before .before .before .before in (pending-sound _ _ (s .pre .0), s .pre .1 .1)
+
+same-length : tie.Need-same-length
+same-length c = search needs
+
+same-length-2 : tie.Need-same-length-2
+same-length-2 c = search needs
+
+returns : tie.Need-returns
+returns c =
+    let s = c .before .before .before .before .before .before .before .before .before .before .before .before in
+    let k = c .before .before .forget .ensures in
+    uncounted _ _ (s .pre .0) _ _ (sym (c .before .before .before .before .before .holds .ensures) ∙ c .before .before .before .before .if1 .taken) _ _ (k .0) (k .1)
+
+record-confirmation-requires : tie.Need-record-confirmation-requires
+record-confirmation-requires c κs = search needs
+
+same-length-3 : tie.Need-same-length-3
+same-length-3 c = search needs
+
+same-length-4 : tie.Need-same-length-4
+same-length-4 c = search needs
+
+same-length-5 : tie.Need-same-length-5
+same-length-5 c = search needs
+
+same-length-6 : tie.Need-same-length-6
+same-length-6 c = search needs
+
+returns-2 : tie.Need-returns-2
+returns-2 c =
+    let s = c .before .before .before .before .before .before .before .before .before .before .before .before .before .before .before .before .before .before .before .before .before in
+    not-uncounted _ _ (s .pre .0) _ _ (sym (c .before .before .before .before .before .before .before .before .before .before .before .before .before .before .holds .ensures) ∙ c .before .before .before .before .before .before .before .before .before .before .before .before .before .if1 .left) (c .before .before .before .before .before .before .before .before .record-confirmation .ensures)
+
+pub confirm-spec : {M : Type 1} → statement M
+confirm-spec =
+    tie.close
+    (tie.spec
+    holds-requires
+    forget-requires
+    same-length
+    same-length-2
+    returns
+    record-confirmation-requires
+    same-length-3
+    same-length-4
+    same-length-5
+    same-length-6
+    returns-2)

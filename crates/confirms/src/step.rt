@@ -1,0 +1,115 @@
+// One listed id.
+use crate::tables::forget;
+use crate::tables::holds;
+use crate::tables::note_height;
+use kinds::Blocks;
+use kinds::Height;
+use kinds::State;
+use table::Found;
+use table::PendingEntry;
+ghost use mathlib.Core.Path.{_≡_};
+ghost use Prim.Native.Nat.{_+_, _*_, _≤_};
+ghost use lib.Dec.{leb, ltb};
+ghost use lib.ListN.{length};
+ghost use Rattle.kinds.specs.Answers.{done};
+ghost use Rattle.rules.specs.Lists.{bit};
+ghost use Rattle.rules.specs.Counts.{gain};
+ghost use Rattle.rules.specs.Board.{base};
+ghost use Rattle.rules.specs.Estimator.{is-pending, find, wait, record-confirmation, confirm};
+ghost use Rattle.rules.specs.Memory.{lent, view, pending-records, confirmed-capacity};
+ghost use Rattle.rules.specs.Calls.{outcome, accepted};
+ghost use Rattle.ready.specs.Ready.{Ready};
+
+// How long a transaction has waited: at least one block.
+fn waited(entry: Height, h: Height) -> Blocks
+    ensures { λ r. ⌜ r .0 ≡ wait (h .0) (entry .0) ⌝ }
+{
+    let from = entry.0;
+    let to = h.0;
+    if from < to {
+        Blocks(to - from)
+    } else {
+        Blocks(1)
+    }
+}
+
+// Counts the confirmation at h of a pending record.
+fn count(confirmed: &mut [f64], resolved: &mut [f64], r: PendingEntry, h: Height)
+    requires { ⌜ (r .bucket ≤ 141) × (3550 ≤ length (now confirmed)) × (3550 ≤ length (now resolved)) ⌝ }
+    ensures { λ _. ⌜ now (confirmed .exit) ≡ gain (r .bucket) (λ c. leb (wait (h .0) (r .entry .0)) (base .width * c)) (now (confirmed .entry)) ⌝ }
+    ensures { λ _. ⌜ now (resolved .exit) ≡ gain (r .bucket) (λ c. ltb (r .through) c) (now (resolved .entry)) ⌝ }
+{
+    let bucket = r.bucket;
+    let through = r.through;
+    let first = counts::first_column(waited(r.entry, h), Blocks(1));
+    counts::count_confirmation(confirmed, resolved, bucket as usize, through, first);
+}
+
+// If the id is pending, it goes, its confirmed height becomes h, and it is counted.
+fn record_confirmation(
+    state: State,
+    confirmed: &mut [f64],
+    resolved: &mut [f64],
+    pending: &mut [u8],
+    recent: &mut [u8],
+    id: &[u8],
+    h: Height,
+) -> State
+    requires { ⌜ Ready state (lent (now confirmed) (now resolved) (now pending) (now recent)) ⌝ }
+    requires { ⌜ state .recent + bit (is-pending (now id) (pending-records base (state .pending) (now pending))) ≤ confirmed-capacity (now recent) ⌝ }
+    requires { ⌜ length (now id) ≡ 32 ⌝ }
+    ensures { λ r. ⌜
+        outcome done r (lent (now (confirmed .exit)) (now (resolved .exit)) (now (pending .exit)) (now (recent .exit)))
+        ≡ accepted base
+        (record-confirmation base (h .0) (now (id .entry)) (find (now (id .entry)) (pending-records base (state .pending) (now (pending .entry))))
+        (view base state (lent (now (confirmed .entry)) (now (resolved .entry)) (now (pending .entry)) (now (recent .entry)))))
+        (lent (now (confirmed .entry)) (now (resolved .entry)) (now (pending .entry)) (now (recent .entry))) ⌝ }
+{
+    let last = state.last;
+    let used = state.pending;
+    let kept = state.recent;
+    match table::find(pending, 44, used, id) {
+        Found::At(i) => {
+            count(confirmed, resolved, table::pending_at(pending, used, i), h);
+            table::remove(pending, 44, used, i);
+            State {
+                last: last,
+                pending: used - 1,
+                recent: note_height(recent, kept, id, h),
+            }
+        }
+        Found::Gap(_) => state,
+    }
+}
+
+// A listed id. If its confirmed record holds exactly h, the pending record goes uncounted.
+pub fn confirm(
+    state: State,
+    confirmed: &mut [f64],
+    resolved: &mut [f64],
+    pending: &mut [u8],
+    recent: &mut [u8],
+    id: &[u8],
+    h: Height,
+) -> State
+    requires { ⌜ Ready state (lent (now confirmed) (now resolved) (now pending) (now recent)) ⌝ }
+    requires { ⌜ state .recent + bit (is-pending (now id) (pending-records base (state .pending) (now pending))) ≤ confirmed-capacity (now recent) ⌝ }
+    requires { ⌜ length (now id) ≡ 32 ⌝ }
+    ensures { λ r. ⌜
+        outcome done r (lent (now (confirmed .exit)) (now (resolved .exit)) (now (pending .exit)) (now (recent .exit)))
+        ≡ accepted base
+        (confirm base (h .0) (now (id .entry)) (view base state (lent (now (confirmed .entry)) (now (resolved .entry)) (now (pending .entry)) (now (recent .entry)))))
+        (lent (now (confirmed .entry)) (now (resolved .entry)) (now (pending .entry)) (now (recent .entry))) ⌝ }
+{
+    let last = state.last;
+    let used = state.pending;
+    let kept = state.recent;
+    if holds(recent, kept, id, h) {
+        return State {
+            last: last,
+            pending: forget(pending, used, id),
+            recent: kept,
+        };
+    }
+    record_confirmation(state, confirmed, resolved, pending, recent, id, h)
+}

@@ -1,0 +1,74 @@
+// One table, by an id.
+use kinds::Height;
+use table::Found;
+ghost use mathlib.Core.Path.{_≡_};
+ghost use mathlib.Core.Bool.{true};
+ghost use Prim.Native.Nat.{_<_};
+ghost use lib.ListN.{length};
+ghost use Rattle.rules.specs.Records.{sound-table};
+ghost use Rattle.rules.specs.Board.{base, pending-size, pending-most, confirmed-size, confirmed-most};
+ghost use Rattle.rules.specs.Estimator.{is-pending, without, holds, become};
+ghost use Rattle.rules.specs.Memory.{pending-records, lay-pending, confirmed-records, confirmed-capacity, lay-confirmed};
+
+// Whether there is a pending record of the id.
+pub fn is_pending(pending: &[u8], used: usize, id: &[u8]) -> bool
+    requires { ⌜ sound-table pending-size pending-most used (now pending) ≡ true ⌝ }
+    requires { ⌜ length (now id) ≡ 32 ⌝ }
+    ensures { λ r. ⌜ r ≡ is-pending (now (id .entry)) (pending-records base used (now (pending .entry))) ⌝ }
+{
+    match table::find(pending, 44, used, id) {
+        Found::At(_) => true,
+        Found::Gap(_) => false,
+    }
+}
+
+// The pending record of the id goes, if there is one. The answer is how many are left.
+pub fn forget(pending: &mut [u8], used: usize, id: &[u8]) -> usize
+    requires { ⌜ sound-table pending-size pending-most used (now pending) ≡ true ⌝ }
+    requires { ⌜ length (now id) ≡ 32 ⌝ }
+    ensures { λ r. ⌜ r ≡ length (without (now (id .entry)) (pending-records base used (now (pending .entry)))) ⌝ }
+    ensures { λ _. ⌜ now (pending .exit) ≡ lay-pending base (without (now (id .entry)) (pending-records base used (now (pending .entry)))) (now (pending .entry)) ⌝ }
+{
+    match table::find(pending, 44, used, id) {
+        Found::At(i) => {
+            table::remove(pending, 44, used, i);
+            used - 1
+        }
+        Found::Gap(_) => used,
+    }
+}
+
+// Whether the confirmed record of the id holds exactly h.
+pub(crate) fn holds(recent: &[u8], used: usize, id: &[u8], h: Height) -> bool
+    requires { ⌜ sound-table confirmed-size confirmed-most used (now recent) ≡ true ⌝ }
+    requires { ⌜ length (now id) ≡ 32 ⌝ }
+    ensures { λ r. ⌜ r ≡ holds (now (id .entry)) (h .0) (confirmed-records used (now (recent .entry))) ⌝ }
+{
+    match table::find(recent, 36, used, id) {
+        Found::At(i) => {
+            let old = table::height_at(recent, used, i);
+            old.0 == h.0
+        }
+        Found::Gap(_) => false,
+    }
+}
+
+// The confirmed height of the id becomes h. The answer is how many confirmed records there are then.
+pub(crate) fn note_height(recent: &mut [u8], used: usize, id: &[u8], h: Height) -> usize
+    requires { ⌜ sound-table confirmed-size confirmed-most used (now recent) ≡ true ⌝ }
+    requires { ⌜ used < confirmed-capacity (now recent) ⌝ }
+    requires { ⌜ length (now id) ≡ 32 ⌝ }
+    ensures { λ r. ⌜ r ≡ length (become (now (id .entry)) (h .0) (confirmed-records used (now (recent .entry)))) ⌝ }
+    ensures { λ _. ⌜ now (recent .exit) ≡ lay-confirmed (become (now (id .entry)) (h .0) (confirmed-records used (now (recent .entry)))) (now (recent .entry)) ⌝ }
+{
+    match table::find(recent, 36, used, id) {
+        Found::At(i) => {
+            table::put_field(recent, 36, used, i, 32, h.0);
+            used
+        }
+        Found::Gap(i) => {
+            table::insert_confirmed(recent, used, i, id, h);
+            used + 1
+        }
+    }
+}
