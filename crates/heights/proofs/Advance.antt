@@ -24,7 +24,7 @@ use Rattle.rules.proofs.Memory.{pending-kept, confirmed-kept}
 use Rattle.rules.proofs.Well.{WellPending, length-expire}
 use Rattle.rules.proofs.Sound.{well-fits}
 use Rattle.rules.proofs.Room.{within-advance}
-use Rattle.table.specs.Fields.{raised}
+use Rattle.passes.specs.Fields.{raised}
 use Rattle.table.proofs.Sound.{Sound, sound-told, sound-room}
 use Rattle.ready.specs.Ready.{Ready}
 use Rattle.ready.proofs.Facts.{resolved-places, used-pending, used-recent, pending-sound, recent-sound}

@@ -19,7 +19,8 @@ use Rattle.rules.proofs.All.{All, none, more}
 use Rattle.rules.proofs.Bytes.{length-bytes}
 use Rattle.rules.proofs.Records.{length-records, sized-records, laid-records, laid-twice}
 use Rattle.rules.proofs.Memory.{all-sized, pending-kept}
-use Rattle.table.specs.Fields.{field, with-field, raised}
+use Rattle.table.specs.Fields.{field, with-field}
+use Rattle.passes.specs.Fields.{raised}
 use Rattle.table.proofs.Records.{sized-map}
 use Rattle.table.proofs.Sound.{Sound, laid-up}
 

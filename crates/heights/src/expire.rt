@@ -13,7 +13,7 @@ ghost use Rattle.rules.specs.Estimator.{expire-targets};
 ghost use Rattle.rules.specs.Memory.{pending-records};
 ghost use Rattle.rules.proofs.All.{All};
 ghost use Rattle.rules.proofs.Well.{WellPending};
-ghost use Rattle.table.specs.Fields.{raised};
+ghost use Rattle.passes.specs.Fields.{raised};
 
 // Pending record number `i` gains one resolved for each column that it has outwaited since it was last looked at.
 fn expire_one(resolved: &mut [f64], pending: &[u8], used: usize, i: usize, h: Height)
@@ -23,7 +23,7 @@ fn expire_one(resolved: &mut [f64], pending: &[u8], used: usize, i: usize, h: He
 {
     let r = table::pending_at(pending, used, i);
     let e = r.entry;
-    let reach = table::outwaited(h, e, Blocks(1));
+    let reach = passes::outwaited(h, e, Blocks(1));
     counts::count_expiry(resolved, r.bucket as usize, r.through, reach);
 }
 
@@ -54,6 +54,6 @@ pub(crate) fn expire_pending(
     ensures { λ _. ⌜ now (pending .exit) ≡ laid 44 used (keep (λ b. ltb (pending-of b .through) 25) (map (raised 1 (h .0)) (records 44 used (now (pending .entry))))) (now (pending .entry)) ⌝ }
 {
     expire_targets(resolved, pending, used, h);
-    table::raise_through(pending, used, h, Blocks(1));
-    table::drop_resolved(pending, used)
+    passes::raise_through(pending, used, h, Blocks(1));
+    passes::drop_resolved(pending, used)
 }

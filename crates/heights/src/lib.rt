@@ -32,7 +32,7 @@ pub fn advance_height(
     let kept = state.recent;
     let waiting = expire_pending(resolved, pending, used, h);
     counts::apply_decay(confirmed, resolved, 0.998);
-    let young = table::prune_confirmed(recent, kept, h);
+    let young = passes::prune_confirmed(recent, kept, h);
     State {
         last: Last::At(h),
         pending: waiting,

@@ -4,8 +4,8 @@ use borrow.Author.Needs.{needs}
 use denote.Ref.{now}
 use lib.Dec.{ltb}
 use Rattle.rules.specs.Board.{pending-of}
-use Rattle.table.specs.Fields.{raised}
-use Rattle.table.proofs.Fields.{length-raised}
+use Rattle.passes.specs.Fields.{raised}
+use Rattle.passes.proofs.Fields.{length-raised}
 use Rattle.heights.proofs.Tables.{changed-kept}
 use Rattle.heights.proofs.expire.expire_pending.Statement.{statement}
 use Rattle.heights.proofs.expire.expire_pending.Tie as tie
