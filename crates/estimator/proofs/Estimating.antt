@@ -2,17 +2,19 @@
 use mathlib.Core.Path.{_≡_, refl, sym, ap, _∙_}
 use mathlib.Core.Bool.{true, false}
 use mathlib.Core.Option.{Option, none, some}
-use Prim.Native.Nat.{ℕ}
-use borrow.Author.Tests.{eq-eqb, ne-eqb}
+use Prim.Native.Nat.{ℕ, _≤_}
+use borrow.Author.Tests.{leb-true, eq-eqb, ne-eqb}
+use lib.ListN.{length}
 use Rattle.kinds.specs.declared.Blocks.{Blocks}
 use Rattle.kinds.specs.declared.State.{State}
 use Rattle.kinds.specs.declared.Estimated.{Estimated}
 use Rattle.kinds.specs.Answers.{done, damaged, estimate-answer}
 use Rattle.rules.specs.Board.{base}
-use Rattle.rules.specs.Counts.{Counts}
+use Rattle.rules.specs.Counts.{Counts, places-of-counts}
 use Rattle.rules.specs.Estimate.{column-of, rate-in-column, estimate}
-use Rattle.rules.specs.Memory.{sound-counts}
+use Rattle.rules.specs.Memory.{enough, sound-counts}
 use Rattle.rules.specs.Calls.{rate-answer, estimate-call}
+use Rattle.rules.proofs.Records.{and-left}
 use Rattle.counts.specs.Scan.{estimated}
 
 -- none or a rate, as the enum's case and as the document's answer
@@ -20,6 +22,11 @@ same-answer : (o : Option ℕ) → estimate-answer (estimated o) ≡ rate-answer
 unfolding estimated estimate-answer rate-answer
 same-answer none = refl
 same-answer (some r) = refl
+
+-- sound counts fill their places
+pub many : (xs : Counts) → sound-counts xs ≡ true → places-of-counts ≤ length xs
+unfolding sound-counts
+many xs h = leb-true _ _ (and-left (enough xs) _ h)
 
 module _ (s : State) (confirmed resolved : Counts) (target : Blocks) where
   pub first-damaged : sound-counts confirmed ≡ false → damaged ≡ estimate-call base s confirmed resolved target

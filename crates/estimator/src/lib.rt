@@ -1,29 +1,41 @@
 // THE PUBLIC CALLS. Each is what its definition in rules/specs/Calls says, for every input; none asks anything of its caller.
-mod clear;
+mod block;
 mod column;
 
-use clear::clear_counts;
-use clear::clear_table;
+use block::connect;
+use block::judge_block;
 use column::column_of;
+use confirms::forget;
+use confirms::is_pending;
 use counts::rate_in_column;
 use counts::sound_counts;
+use kinds::BlockAnswer;
 use kinds::Blocks;
+use kinds::Connected;
 use kinds::EnterAnswer;
 use kinds::Entered;
 use kinds::Estimated;
 use kinds::FeeRate;
 use kinds::Height;
 use kinds::Last;
+use kinds::LeaveAnswer;
+use kinds::Left;
 use kinds::StartAnswer;
 use kinds::Started;
 use kinds::State;
+use memory::clear_counts;
+use memory::clear_table;
+use passes::judge_pending;
 use table::Found;
+use table::capacity;
+use table::find;
+use table::insert_pending;
 ghost use mathlib.Core.Path.{_≡_};
-ghost use Rattle.kinds.specs.Answers.{start-answer, enter-answer, estimate-answer};
+ghost use Rattle.kinds.specs.Answers.{start-answer, enter-answer, leave-answer, block-answer, estimate-answer};
 ghost use Rattle.rules.specs.Ladder.{bucket-index};
 ghost use Rattle.rules.specs.Board.{base};
 ghost use Rattle.rules.specs.Memory.{lent};
-ghost use Rattle.rules.specs.Calls.{outcome, start-call, enter-call, estimate-call};
+ghost use Rattle.rules.specs.Calls.{outcome, start-call, enter-call, leave-call, block-call, estimate-call};
 
 // A fresh start: no count, no record, no last height.
 pub fn new(
@@ -74,26 +86,26 @@ pub fn tx_entered(
     ensures { λ r. ⌜ outcome (enter-answer (r .answer)) (r .state) (now (pending .exit)) ≡ enter-call base state (now (pending .entry)) (now (id .entry)) rate height ⌝ }
 {
     let used = state.pending;
-    if !passes::judge_pending(pending, used) {
+    if !judge_pending(pending, used) {
         return Entered {
             answer: EnterAnswer::Damaged,
             state,
         };
     }
-    match table::find(pending, 44, used, id) {
+    match find(pending, 44, used, id) {
         Found::At(_) => Entered {
             answer: EnterAnswer::AlreadyPending,
             state,
         },
         Found::Gap(at) => {
-            if used == table::capacity(pending, 44, 10000) {
+            if used == capacity(pending, 44, 10000) {
                 return Entered {
                     answer: EnterAnswer::PendingFull,
                     state,
                 };
             }
             let bucket = ladder::bucket_index_for_rate(rate) as u32;
-            table::insert_pending(pending, used, at, id, bucket, height);
+            insert_pending(pending, used, at, id, bucket, height);
             let last = state.last;
             let recent = state.recent;
             Entered {
@@ -105,6 +117,59 @@ pub fn tx_entered(
                 },
             }
         }
+    }
+}
+
+// Leave (id).
+pub fn tx_left(state: State, pending: &mut [u8], id: &[u8; 32]) -> Left
+    ensures { λ r. ⌜ outcome (leave-answer (r .answer)) (r .state) (now (pending .exit)) ≡ leave-call base state (now (pending .entry)) (now (id .entry)) ⌝ }
+{
+    let used = state.pending;
+    if !judge_pending(pending, used) {
+        return Left {
+            answer: LeaveAnswer::Damaged,
+            state,
+        };
+    }
+    if !is_pending(pending, used, id) {
+        return Left {
+            answer: LeaveAnswer::Absent,
+            state,
+        };
+    }
+    let last = state.last;
+    let recent = state.recent;
+    Left {
+        answer: LeaveAnswer::Done,
+        state: State {
+            last,
+            pending: forget(pending, used, id),
+            recent,
+        },
+    }
+}
+
+// Block (ids, height).
+pub fn block_connected(
+    state: State,
+    confirmed: &mut [f64],
+    resolved: &mut [f64],
+    pending: &mut [u8],
+    recent: &mut [u8],
+    ids: &[u8],
+    height: Height,
+) -> Connected
+    ensures { λ r. ⌜
+        outcome (block-answer (r .answer)) (r .state) (lent (now (confirmed .exit)) (now (resolved .exit)) (now (pending .exit)) (now (recent .exit)))
+        ≡ block-call base state (lent (now (confirmed .entry)) (now (resolved .entry)) (now (pending .entry)) (now (recent .entry))) (now (ids .entry)) height ⌝ }
+{
+    let answer = judge_block(state, confirmed, resolved, pending, recent, ids, height);
+    let BlockAnswer::Done = answer else {
+        return Connected { answer, state };
+    };
+    Connected {
+        answer,
+        state: connect(state, confirmed, resolved, pending, recent, ids, height),
     }
 }
 

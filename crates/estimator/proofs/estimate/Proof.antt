@@ -7,8 +7,7 @@ use denote.Ref.{now}
 use Rattle.kinds.specs.Answers.{estimate-answer}
 use Rattle.rules.specs.Memory.{sound-counts}
 use Rattle.rules.proofs.Counting.{base-column}
-use Rattle.estimator.proofs.Slices.{many}
-use Rattle.estimator.proofs.Estimating.{first-damaged, second-damaged, no-target, in-column}
+use Rattle.estimator.proofs.Estimating.{many, first-damaged, second-damaged, no-target, in-column}
 use borrow.Author.Needs.{needs}
 use Rattle.estimator.proofs.estimate.Statement.{statement}
 use Rattle.estimator.proofs.estimate.Tie as tie

@@ -1,8 +1,8 @@
--- `estimator::new` meets its contract: each of its answers is the definition's, by the laws of `Clearing`. Assumes nothing.
+-- `estimator::new` meets its contract: each of its answers is the definition's, by the laws of `Starting`. Assumes nothing.
 use denote.Ref.{now}
 use Rattle.kinds.specs.Answers.{start-answer}
 use Rattle.rules.specs.Memory.{Lent, lent}
-use Rattle.estimator.proofs.Clearing.{start-few, start-fewer, start-done}
+use Rattle.estimator.proofs.Starting.{start-few, start-fewer, start-done}
 use borrow.Author.Needs.{needs}
 use Rattle.estimator.proofs.new.Statement.{statement}
 use Rattle.estimator.proofs.new.Tie as tie

@@ -14,12 +14,12 @@ use Rattle.rules.specs.Board.{base}
 use Rattle.rules.specs.Records.{capacity, id-of, records}
 use Rattle.rules.specs.Memory.{sound-pending}
 use Rattle.rules.proofs.Rates.{bucket-lt}
-use Rattle.rules.proofs.Records.{capacity-room}
+use Rattle.rules.proofs.Records.{capacity-room, used-within}
 use Rattle.table.specs.Search.{find-in}
 use Rattle.table.specs.declared.Found.the-variants.{Gap}
-use Rattle.table.proofs.Sound.{sound-room}
-use Rattle.estimator.proofs.Slices.{are-bytes}
-use Rattle.estimator.proofs.Entering.{Enter, told, within, enter-damaged, enter-there, enter-full, enter-done}
+use Rattle.confirms.proofs.Edited.{are-bytes, searchable, gap-used}
+use Rattle.estimator.proofs.Parts.{pending-table}
+use Rattle.estimator.proofs.Entering.{Enter, enter-damaged, enter-there, enter-full, enter-done}
 use borrow.Author.Needs.{needs}
 use Rattle.estimator.proofs.tx_entered.Statement.{statement}
 use Rattle.estimator.proofs.tx_entered.Tie as tie
@@ -50,7 +50,7 @@ room c =
     let e = searched (missed c) in
     let k = given (start e) in
     let n = c .before .capacity .ensures in
-    let less : k .state .pending < capacity 44 10000 (k .table) = omega (arith, told k (sound e) .fit, c .if2 .left) in
+    let less : k .state .pending < capacity 44 10000 (k .table) = omega (arith, used-within 44 10000 (k .state .pending) (k .table) (pending-table (k .state .pending) (k .table) (sound e)), c .if2 .left) in
     (less, omega (arith, capacity-room 44 10000 (k .table)))
 
 judge-pending-requires : tie.Need-judge-pending-requires
@@ -67,8 +67,7 @@ find-requires : tie.Need-find-requires
 find-requires c κs =
     let e = c .before .before in
     let k = given (start e) in
-    let g = told k (sound e) in
-    ((omega arith, sound-room 44 10000 (k .state .pending) (k .table) g), (g .rise, search needs))
+    searchable 44 10000 (k .state .pending) (k .table) (k .id) (omega arith) (pending-table (k .state .pending) (k .table) (sound e)) (search needs)
 
 enum-told : tie.Need-enum-told
 enum-told c = search needs
@@ -100,7 +99,8 @@ insert-pending-requires c κs =
     let o = c .before .before .before in
     let g = missed o in
     let e = searched g in
-    ((within (given (start e)) (sound e) (g .at .given .0 .0) (gap g), room o .1), search needs)
+    let k = given (start e) in
+    ((gap-used 44 (k .state .pending) (g .at .given .0 .0) (k .table) (k .id) (gap g), room o .1), search needs)
 
 add-t23 : tie.Need-add-t23
 add-t23 c = omega (arith, room (c .before .before .before .before .before .before))
@@ -126,11 +126,12 @@ returns-4 c =
     let g = missed o in
     let e = searched g in
     let k = given (start e) in
-    let t : T (areBytes (k .table)) = are-bytes (k .table) (λ i. e .before .before .before .slice-known .given i .fits) in
+    let ys = put .insert-pending .last .0 in
+    let t : T (areBytes ys) = are-bytes ys (λ i. c .slice-known2 .given i .fits) in
     let l : length (k .id) ≡ 32 = search needs in
     let b : k .height .0 < 256 ^ 4 = start e .good .1 .1 .1 .1 .0 .1 .1 .0 .1 in
     let n = put .before .before .before .bucket-index-for-rate in
-    enter-done k (sound e) (g .at .given .0 .0) (gap g) l b (room o .0) t (n .result) (n .ensures) (put .insert-pending .last .0) (put .insert-pending .ensures)
+    enter-done k (sound e) (g .at .given .0 .0) (gap g) (room o .0) ys t l b (n .result) (n .ensures) (put .insert-pending .ensures)
 
 pub tx-entered-spec : {M : Type 1} → statement M
 tx-entered-spec =

@@ -1,4 +1,4 @@
--- `estimator::clear::clear_counts` meets its contract. The invariant: the counts up to `i` are +0.0, and the others are as they were.
+-- `memory::clear::clear_counts` meets its contract. The invariant: the counts up to `i` are +0.0, and the others are as they were.
 -- Assumes nothing.
 use mathlib.Core.Path.{_≡_, refl, _∙_}
 use Prim.Native.Nat.{_-_}
@@ -7,9 +7,9 @@ use denote.Ref.{now}
 use lib.Ieee.{nan, binary64, ofBits}
 use Rattle.seqs.proofs.Upto.{Going, start, step, stop}
 use Rattle.rules.specs.Counts.{nought, places-of-counts}
-use Rattle.estimator.proofs.Clearing.{filled}
-use Rattle.estimator.proofs.clear.clear_counts.Statement.{statement}
-use Rattle.estimator.proofs.clear.clear_counts.Tie as tie
+use Rattle.memory.proofs.Clearing.{filled}
+use Rattle.memory.proofs.clear.clear_counts.Statement.{statement}
+use Rattle.memory.proofs.clear.clear_counts.Tie as tie
 
 -- the source's constant
 nought-is : ofBits binary64 0 ≡ nought

@@ -1,4 +1,4 @@
--- `estimator::clear::clear_table` meets its contract: zeros up to the capacity are a table with no record. Assumes nothing.
+-- `memory::clear::clear_table` meets its contract: zeros up to the capacity are a table with no record. Assumes nothing.
 use mathlib.Core.Path.{_∙_}
 use Prim.Native.Nat.{_*_, _≤_}
 use native.Mathlib.Omega.{arith}
@@ -6,10 +6,10 @@ use denote.Ref.{now}
 use lib.ListN.{length}
 use Rattle.rules.specs.Records.{capacity}
 use Rattle.rules.proofs.Records.{capacity-room}
-use Rattle.estimator.proofs.Clearing.{none-laid}
+use Rattle.memory.proofs.Clearing.{none-laid}
 use borrow.Author.Needs.{needs}
-use Rattle.estimator.proofs.clear.clear_table.Statement.{statement}
-use Rattle.estimator.proofs.clear.clear_table.Tie as tie
+use Rattle.memory.proofs.clear.clear_table.Statement.{statement}
+use Rattle.memory.proofs.clear.clear_table.Tie as tie
 
 room : (c : tie.After-capacity) → let a = c .before .before .before .args in c .capacity .result * a .size ≤ length (now (a .table))
 room c = let a = c .before .before .before .args in rw (c .capacity .ensures) (capacity-room (a .size) (a .most) (now (a .table)))

@@ -7,7 +7,7 @@ ghost use Rattle.rules.specs.Counts.{no-counts, places-of-counts};
 ghost use Rattle.rules.specs.Records.{capacity, laid};
 
 // The 3,550 counts become +0.0.
-pub(crate) fn clear_counts(counts: &mut [f64])
+pub fn clear_counts(counts: &mut [f64])
     requires { ⌜ places-of-counts ≤ length (now counts) ⌝ }
     ensures { λ _. ⌜ now (counts .exit) ≡ no-counts ++ drop places-of-counts (now (counts .entry)) ⌝ }
 {
@@ -19,7 +19,7 @@ pub(crate) fn clear_counts(counts: &mut [f64])
 }
 
 // A table of records, each `size` bytes, holds none.
-pub(crate) fn clear_table(table: &mut [u8], size: usize, most: usize)
+pub fn clear_table(table: &mut [u8], size: usize, most: usize)
     requires { ⌜ 32 ≤ size ⌝ }
     ensures { λ _. ⌜ now (table .exit) ≡ laid size (capacity size most (now (table .entry))) [] (now (table .entry)) ⌝ }
 {
