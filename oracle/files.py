@@ -5,6 +5,7 @@ import zlib
 
 TARGETS = 25
 PENDING, RECENT = 44, 36  # bytes of a record
+ROW = 408  # bytes of a bucket
 FRESH_LENGTH = 57_961
 
 

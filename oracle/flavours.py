@@ -7,6 +7,7 @@ from files import BUCKETS, COUNTS, FRESH_LENGTH, PENDING, RECENT, TARGETS, bits,
 from histories import HIGHEST, LEAST, MINUS_ZERO, any_file, any_pattern, damaged_file, near_threshold
 from walk import TOP, Walk, any_height, any_rate
 
+DAMAGED = (PENDING * 10 + 20, RECENT * 10 + 20, COUNTS + 10, COUNTS + 10)  # what is lent where damage is done
 UNSOUND = ["nan", "7ff0000000000000", "fff0000000000000", "bff0000000000000", "8000000000000001", "ffefffffffffffff", "7ff0000000000001"]
 
 
@@ -212,7 +213,8 @@ def odd_lengths(rng):
     """Slices of odd lengths, junk past the capacities, counts too short."""
     walk = Walk(rng, pool=5)
     for _ in range(6):
-        lengths = [rng.choice([0, 1, size - 1, size, size + 1, 2 * size - 1, 2 * size, rng.randrange(8 * size)]) for size in (PENDING, RECENT)]
+        edges = ([0, 1, size - 1, size, size + 1, 2 * size - 1, 2 * size, rng.randrange(8 * size)] for size in (PENDING, RECENT))
+        lengths = [rng.choice(lengths) for lengths in edges]
         counts = rng.choice([counts_lent(rng), counts_lent(rng), [rng.choice([0, 1, 3_549, 3_550, 3_600]) for _ in range(2)]])
         walk.lend(*lengths, *counts)
         junk(walk)
@@ -253,7 +255,7 @@ def wide_gaps(rng):
 
 
 def damage(walk):
-    """One change behind the estimator's back; some leave the memory sound."""
+    """One change behind the estimator's back, of memory lent as DAMAGED says; some leave it sound."""
     rng = walk.rng
     used = [max(0, len(walk.pending) + rng.choice([-1, 0, 0, 1])), max(0, len(walk.recent) + rng.choice([-1, 0, 0, 1]))]
     record, height = rng.randrange(max(1, used[0])), rng.randrange(max(1, used[1]))
@@ -283,7 +285,7 @@ def damage(walk):
 def damaged_memory(rng):
     """Each kind of damage, and every call upon it; a start or a reading mends it."""
     walk = Walk(rng, pool=5)
-    walk.lend(460, 380, 3_560, 3_560)
+    walk.lend(*DAMAGED)
     for _ in range(8):
         walk.steps(rng.randint(0, 8))
         walk.add("write", 60_000)
@@ -315,7 +317,7 @@ def rates(rng):
 def scribbled(rng):
     """A sound script with one line changed at a letter, so that it may not fit."""
     walk = Walk(rng, pool=5)
-    walk.lend(PENDING * 4, RECENT * 6)
+    walk.lend(*DAMAGED)
     walk.steps(20)
     for _ in range(4):
         damage(walk)
@@ -335,8 +337,13 @@ def large(rng):
     pending, recent = rng.choice([(10_000, 200), (9_999, 5), (2_000, 12_000), (10, 20_002)])
     walk.lend(*rng.choice([(440_100, 720_100), (PENDING * pending, RECENT * recent), (440_000, 720_072)]))
     restore(walk, {**any_file(rng, 0, 0), "pending": numbered(rng, pending, True), "recent": numbered(rng, recent, False)})
-    walk.steps(12)
-    walk.round_trip()
+    walk.steps(8)
+    walk.add("blockraw", walk.now() + 1, "".join(list(walk.pending)[:3_000]) or "-")
+    walk.add("sum")
+    walk.steps(4)
+    walk.add("write", 1_400_000)
+    walk.add("again")
+    walk.add("sum")
     return walk.text()
 
 

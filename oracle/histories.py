@@ -2,7 +2,7 @@
 
 import struct
 
-from files import BUCKETS, COUNTS, PENDING, TARGETS, bits, file, head, name, place, records, u32
+from files import BUCKETS, COUNTS, PENDING, ROW, TARGETS, bits, file, head, name, place, u32
 from walk import TOP, any_height, ids
 
 MINUS_ZERO, LEAST, HIGHEST, INFINITE = 1 << 63, 1, 0x7FEFFFFFFFFFFFFF, 0x7FF0000000000000
@@ -42,11 +42,12 @@ def any_records(rng, last, pending, recent):
         near = min(TOP, max(0, around + rng.choice([-27, -26, -25, -24, -1, 0, 1, rng.randrange(-60, 60)])))
         return near if rng.random() < 0.9 else any_height(rng)
 
+    def fields():
+        bucket = rng.choice([0, 33, 141, rng.randrange(BUCKETS)])
+        return u32(bucket) + u32(height()) + u32(rng.choice([0, 0, 24, 25, rng.randint(0, 25)]))
+
     names = [name(text) for text in ids(rng, max(1, rng.choice([pending, pending // 2])))]
-    waiting = [
-        rng.choice(names) + u32(rng.choice([0, 33, 141, rng.randrange(BUCKETS)])) + u32(height()) + u32(rng.choice([0, 0, 24, 25, rng.randint(0, 25)]))
-        for _ in range(pending)
-    ]
+    waiting = [rng.choice(names) + fields() for _ in range(pending)]
     done = [rng.choice(names + [rng.randbytes(32)]) + u32(height()) for _ in range(recent)]
     if rng.random() < 0.5:
         waiting, done = sorted(waiting), sorted(done)
@@ -76,24 +77,24 @@ def with_fields(parts, bucket, through, rng):
 
 
 def with_rate(whole, start, rng):
-    at = start + 408 * rng.choice([0, BUCKETS - 1, rng.randrange(BUCKETS)])
+    at = start + ROW * rng.choice([0, BUCKETS - 1, rng.randrange(BUCKETS)])
     rate = struct.unpack("<Q", whole[at : at + 8])[0] + rng.choice([-1, 1, 2**32, 2**56])
     return whole[:at] + struct.pack("<Q", rate) + whole[at + 8 :]
 
 
 def damaged_file(rng, parts):
-    """One way of damaging a file, each way as likely as the others."""
-    whole = file(**parts)
-    start = len(head(parts["last"])) + 4
-    tables = start + 408 * BUCKETS
-    after_pending = tables + 4 + PENDING * len(parts["pending"])
-    marks = [0, 7, 8, 11, 12, 13, start - 4, start, start + 8, start + 208, start + 408, tables, tables + 4, after_pending, after_pending + 4]
-    cut = rng.choice([rng.choice(marks) + rng.choice([-1, 0, 1]), len(whole) - 1, len(whole) - rng.randint(1, 50), rng.randrange(len(whole))])
-    lists = (records(parts["pending"]), records(parts["recent"]))
-    prefix = head(parts["last"])
+    """One way of damaging a file, each way as likely as the others; some leave it sound."""
+    whole, prefix = file(**parts), head(parts["last"])
+    pending, recent = parts["pending"], parts["recent"]
+    start = len(prefix) + 4
+    tables = start + ROW * BUCKETS
+    after_pending = tables + 4 + PENDING * len(pending)
+    marks = [0, 7, 8, 11, 12, 13, start - 4, start, start + 8, start + 208, start + ROW]
+    marks += [tables, tables + 4, after_pending, after_pending + 4, len(whole)]
 
-    def counted(list_of_records, wrong):
-        return u32(wrong % 2**32) + b"".join(list_of_records)
+    def cut():
+        at = rng.choice([rng.choice(marks) + rng.choice([-1, 0, 1]), len(whole) - rng.randint(1, 50), rng.randrange(len(whole))])
+        return whole[: max(0, at)]
 
     def flipped():
         changed = bytearray(whole)
@@ -102,17 +103,24 @@ def damaged_file(rng, parts):
             changed[at] ^= 1 << rng.randrange(8)
         return bytes(changed)
 
+    def pending_counted(number):
+        return whole[:tables] + u32(number % 2**32) + whole[tables + 4 :]
+
+    def recent_counted(number):
+        return whole[:after_pending] + u32(number % 2**32) + whole[after_pending + 4 :]
+
     ways = [
-        lambda: whole[: max(0, cut)],
-        lambda: whole + bytes(rng.choice([1, 4, 36, 44])),
-        lambda: whole + rng.randbytes(1),
-        lambda: bytes([whole[0] ^ 1]) + whole[1:] if rng.random() < 0.5 else whole[:7] + b"s" + whole[8:],
+        cut,
+        lambda: whole[: rng.randint(1, 17)],
+        lambda: whole + rng.randbytes(rng.choice([1, 4, 36, 44])),
+        lambda: bytes([whole[0] ^ 1]) + whole[1:],
+        lambda: whole[:7] + b"s" + whole[8:],
         lambda: whole[:8] + u32(rng.choice([0, 2, 3, 256, 2**24 + 1, TOP])) + whole[12:],
         lambda: whole[:12] + bytes([rng.choice([2, 3, 128, 255])]) + whole[13:],
         lambda: whole[:12] + bytes([whole[12] ^ 1]) + whole[13:],
         lambda: prefix + u32(rng.choice([0, 1, 141, 143, 142 + 2**16, TOP])) + whole[start:],
-        lambda: prefix + u32(143) + whole[start:tables] + whole[tables - 408 : tables] + whole[tables:],
-        lambda: prefix + u32(141) + whole[start : tables - 408] + whole[tables:],
+        lambda: prefix + u32(143) + whole[start:tables] + whole[tables - ROW :],
+        lambda: prefix + u32(141) + whole[start : tables - ROW] + whole[tables:],
         lambda: prefix + u32(0) + whole[tables:],
         lambda: with_rate(whole, start, rng),
         lambda: with_count(parts, rng.choice([INFINITE, INFINITE + 1, 0x7FF8 << 48, 1 << 63 | INFINITE, bits(-1.0), 1 << 63 | LEAST]), rng),
@@ -120,13 +128,12 @@ def damaged_file(rng, parts):
         lambda: with_fields(parts, rng.choice([142, 143, 255, 2**31, TOP]), rng.randint(0, 25), rng),
         lambda: with_fields(parts, rng.randrange(BUCKETS), rng.choice([26, 27, 255, 2**31, TOP]), rng),
         lambda: with_fields(parts, 141, 25, rng),
-        lambda: whole[:tables] + counted(parts["pending"], len(parts["pending"]) + rng.choice([-1, 1, 2])) + lists[1],
-        lambda: whole[:tables] + counted(parts["pending"], rng.choice([10_000, 10_001, TOP])) + lists[1],
-        lambda: whole[:after_pending] + counted(parts["recent"], len(parts["recent"]) + rng.choice([-1, 1, 2])),
-        lambda: whole[:after_pending] + counted(parts["recent"], rng.choice([1_000_000, 1_000_001, TOP])),
+        lambda: pending_counted(len(pending) + rng.choice([-1, 1, 2])),
+        lambda: pending_counted(rng.choice([10_000, 10_001, TOP])),
+        lambda: recent_counted(len(recent) + rng.choice([-1, 1, 2])),
+        lambda: recent_counted(rng.choice([1_000_000, 1_000_001, TOP])),
         flipped,
         lambda: rng.randbytes(rng.randint(1, 40)),
-        lambda: whole[: rng.randint(1, 17)],
         lambda: whole,
     ]
     return rng.choice(ways)()

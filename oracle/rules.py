@@ -59,9 +59,8 @@ class Memory:
 
     def judge_counts(self):
         self.judge_lengths()
-        for counts in self.confirmed, self.resolved:
-            if not all(0.0 <= count < math.inf for count in counts[:COUNTS]):
-                raise Damaged
+        if not (sound(self.confirmed[:COUNTS]) and sound(self.resolved[:COUNTS])):
+            raise Damaged
 
     def pending_records(self):
         """The pending records by id: bucket, entry height, resolved-through. Judges the table."""
@@ -84,6 +83,11 @@ class Memory:
 
     def lay_counts(self, confirmed, resolved):
         self.confirmed[:COUNTS], self.resolved[:COUNTS] = confirmed, resolved
+
+
+def sound(counts):
+    """Whether all are finite and none is below 0."""
+    return all(map(math.isfinite, counts)) and min(counts) >= 0.0
 
 
 def judged(table, record, used, capacity):
@@ -170,7 +174,7 @@ class File:
 
     def row(self):
         counts = struct.unpack("<25d", self.take(TARGETS * 8))
-        if not all(0.0 <= count < math.inf for count in counts):
+        if not sound(counts):
             raise Refused(CORRUPT)
         return counts
 
@@ -312,8 +316,8 @@ class Run:
     def sum(self):
         memory = self.memory
         last = "-" if memory.last is None else memory.last
-        doubles = (b"".join(map(pattern, counts)) for counts in (memory.confirmed, memory.resolved))
-        sums = [adler(contents) for contents in (memory.pending, memory.recent, *doubles)]
+        slices = memory.pending, memory.recent, doubles(memory.confirmed), doubles(memory.resolved)
+        sums = [adler(contents) for contents in slices]
         return " ".join(map(str, [last, memory.used_pending, memory.used_recent, *sums]))
 
 
@@ -321,8 +325,9 @@ def number(value):
     return value.to_bytes(4, "little")
 
 
-def pattern(count):
-    return bytes.fromhex("000000000000f87f") if count != count else struct.pack("<d", count)
+def doubles(counts):
+    """Counts as bytes, every NaN alike."""
+    return struct.pack(f"<{len(counts)}d", *(math.nan if count != count else count for count in counts))
 
 
 def adler(contents):

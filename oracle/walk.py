@@ -96,7 +96,7 @@ class Walk:
         """A block's ids: some of the pending ones, others, and repeats."""
         rng = self.rng
         share = rng.choice([0, 0.3, 0.7, 1])
-        names = [name for name in self.pending if self.chance(share)]
+        names = [name for name in self.pending if self.chance(share)][:60]
         if self.chance(0.3):
             names += rng.choices(self.pool, k=rng.randint(1, 3))
         if names and self.chance(0.25):

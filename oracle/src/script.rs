@@ -75,10 +75,9 @@ fn call(name: &[u8], rest: &[&[u8]]) -> Option<Call> {
         (b"start", []) => Call::Start,
         (b"enter", &[name, rate, height]) => Call::Enter { id: id(name)?, rate: number(rate)?, height: narrow(height)? },
         (b"leave", &[name]) => Call::Leave { id: id(name)? },
-        (b"block", [height, ids @ ..]) if ids.len() <= MOST_IDS => Call::Block {
-            height: narrow(height)?,
-            ids: ids.iter().map(|name| id(name)).collect::<Option<Vec<_>>>()?.concat(),
-        },
+        (b"block", [height, ids @ ..]) if ids.len() <= MOST_IDS => {
+            Call::Block { height: narrow(height)?, ids: ids.iter().map(|name| id(name)).collect::<Option<Vec<_>>>()?.concat() }
+        }
         (b"blockraw", &[height, ids]) => Call::Block { height: narrow(height)?, ids: hex_or_none(ids)? },
         (b"estimate", &[target]) => Call::Estimate(narrow(target)?),
         (b"estimates", []) => Call::Estimates,
