@@ -1,0 +1,89 @@
+-- Heights advanced one after the other: each finds memory ready, since an advance keeps the estimator well-formed and needs no room, and what it leaves is
+-- told of the memory before the first. Assumes nothing.
+use mathlib.Core.Path.{_≡_, refl, sym, ap, _∙_}
+use Prim.Native.Nat.{ℕ, suc, _+_, _-_, _≤_, _<_, zero-le}
+use native.Mathlib.Numerals.{add-one}
+use native.Mathlib.Omega.{arith}
+use lib.ListN.{length}
+use Rattle.kinds.specs.declared.Height.{Height}
+use Rattle.kinds.specs.declared.Last.{Last}
+use Rattle.kinds.specs.declared.Last.the-variants.{Nothing, At}
+use Rattle.kinds.specs.declared.State.{State}
+use Rattle.kinds.specs.Answers.{done}
+use Rattle.rules.specs.Board.{base}
+use Rattle.rules.specs.Estimator.{advance-height, advance-heights, skip-heights}
+use Rattle.rules.specs.Memory.{Lent, view}
+use Rattle.rules.specs.Calls.{Outcome, outcome, accepted}
+use Rattle.rules.proofs.Memory.{Room}
+use Rattle.rules.proofs.Well.{Well, well-advances}
+use Rattle.rules.proofs.Room.{within-advances}
+use Rattle.ready.specs.Ready.{Ready}
+use Rattle.ready.proofs.Ready.{ready-after, step-after, step-none}
+
+-- the slices are as long as they were
+pub record Long (m l : Lent) : Type 0 where
+  pub confirmed : length (l .confirmed) ≡ length (m .confirmed)
+  pub resolved : length (l .resolved) ≡ length (m .resolved)
+  pub pending : length (l .pending) ≡ length (m .pending)
+  pub recent : length (l .recent) ≡ length (m .recent)
+
+long-same : (m : Lent) → Long m m
+long-same m = record { confirmed = refl; resolved = refl; pending = refl; recent = refl }
+
+long-after : {m l k : Lent} → Long m l → Long l k → Long m k
+long-after a b = record { confirmed = b .confirmed ∙ a .confirmed; resolved = b .resolved ∙ a .resolved; pending = b .pending ∙ a .pending; recent = b .recent ∙ a .recent }
+
+-- i of the n heights after L are advanced
+pub record Going (L n : ℕ) (s₀ : State) (m : Lent) (s : State) (l : Lent) (i : ℕ) : Type 0 where
+  pub within : i ≤ n
+  pub long : Long m l
+  pub advanced : outcome done s l ≡ accepted base (advance-heights base L i (view base s₀ m)) m
+
+module _ (L n : ℕ) (s₀ : State) (m : Lent) (r : Ready s₀ m) where
+  well : (i : ℕ) → Well (advance-heights base L i (view base s₀ m))
+  well i = well-advances base L i (view base s₀ m) (r .well)
+
+  room : (i : ℕ) → Room base (advance-heights base L i (view base s₀ m)) m
+  room i =
+      let w = within-advances base L i (view base s₀ m) in
+      record { pending = omega (arith, w .pending, r .room .pending); recent = omega (arith, w .recent, r .room .recent) }
+
+  pub start : Going L n s₀ m s₀ m 0
+  unfolding advance-heights
+  start = record { within = zero-le; long = long-same m; advanced = step-none s₀ m r }
+
+  pub ready-still : {s : State} {l : Lent} {i : ℕ} → Going L n s₀ m s l i → Ready s l
+  ready-still {s} {l} {i} g = ready-after m (advance-heights base L i (view base s₀ m)) (well i) (room i) (g .advanced)
+
+  pub next : {s t : State} {l k : Lent} {i : ℕ} → Going L n s₀ m s l i → i < n → Long l k
+      → outcome done t k ≡ accepted base (advance-height base (L + (i + 1)) (view base s l)) l → Going L n s₀ m t k (i + 1)
+  unfolding advance-heights
+  next {s} {t} {l} {k} {i} g h long e =
+      record {
+        within = omega arith;
+        long = long-after (g .long) long;
+        advanced = rw (add-one i) (step-after m (advance-heights base L i (view base s₀ m)) (advance-height base (L + suc i)) (well i) (room i) (g .advanced) (rw (add-one i) at e));
+      }
+
+  pub stop : {s : State} {l : Lent} {i : ℕ} → Going L n s₀ m s l i → n ≤ i → outcome done s l ≡ accepted base (advance-heights base L n (view base s₀ m)) m
+  stop {s} {l} {i} g h = let e : i ≡ n = omega (arith, g .within) in rw e at (g .advanced)
+
+-- ---- the heights strictly between the last one and B
+
+module _ (s : State) (m : Lent) (B : ℕ) where
+  -- what was done is what the last height asks for
+  asked : {last : Last} (o : Outcome Lent) → s .last ≡ last → o ≡ accepted base (skip-heights base last B (view base s m)) m → o ≡ accepted base (skip-heights base (s .last) B (view base s m)) m
+  asked o e q = q ∙ ap (λ (x : Last). accepted base (skip-heights base x B (view base s m)) m) (sym e)
+
+  pub no-last : Ready s m → s .last ≡ Nothing → outcome done s m ≡ accepted base (skip-heights base (s .last) B (view base s m)) m
+  unfolding skip-heights
+  no-last r e = asked (outcome done s m) e (step-none s m r)
+
+  pub between : {t : State} {l : Lent} {low : Height} (n : ℕ) → s .last ≡ At low → n ≡ B - suc (low .0)
+      → outcome done t l ≡ accepted base (advance-heights base (low .0) n (view base s m)) m → outcome done t l ≡ accepted base (skip-heights base (s .last) B (view base s m)) m
+  unfolding skip-heights
+  between {t} {l} n e q p = asked (outcome done t l) e (rw q at p)
+
+  pub none-between : {low : Height} → Ready s m → s .last ≡ At low → B ≤ low .0 → outcome done s m ≡ accepted base (skip-heights base (s .last) B (view base s m)) m
+  unfolding advance-heights
+  none-between {low} r e h = between 0 e (omega arith) (step-none s m r)

@@ -1,0 +1,67 @@
+-- `heights::advance_height` meets its contract: the three calls leave what the law `advanced` asks for.
+-- Assumes nothing.
+use borrow.Author.Needs.{needs}
+use native.Mathlib.Omega.{arith}
+use denote.Ref.{now}
+use Rattle.rules.specs.Memory.{Lent, lent}
+use Rattle.floats.proofs.Bits.{decay-is}
+use Rattle.ready.proofs.Facts.{confirmed-places, resolved-places}
+use Rattle.heights.proofs.Advance.{pending-room, recent-room, pending-well, advanced}
+use Rattle.heights.proofs.advance_height.Statement.{statement}
+use Rattle.heights.proofs.advance_height.Tie as tie
+
+-- the memory at entry
+abbrev given : tie.Start → Lent
+given s = lent (now (s .args .confirmed)) (now (s .args .resolved)) (now (s .args .pending)) (now (s .args .recent))
+
+expire-pending-requires : tie.Need-expire-pending-requires
+expire-pending-requires c κs =
+    let s = c .before .before .before .before .before .before in
+    ((resolved-places (s .args .state) (given s) (s .pre), pending-room (s .args .state) (given s) (s .pre)), pending-well (s .args .state) (given s) (s .pre))
+
+apply-decay-requires : tie.Need-apply-decay-requires
+apply-decay-requires c κs =
+    let s = c .before .before .before .before .before .before .before .before .before .before .before .before .before in
+    let n = resolved-places (s .args .state) (given s) (s .pre) in
+    (confirmed-places (s .args .state) (given s) (s .pre), omega (arith, c .before .before .before .before .before .before .expire-pending .kept .0))
+
+prune-confirmed-requires : tie.Need-prune-confirmed-requires
+prune-confirmed-requires c κs =
+    let s = c .before .before .before .before .before .before .before .before .before .before .before .before .before .before .before .before .before .before .before in
+    recent-room (s .args .state) (given s) (s .pre)
+
+same-length : tie.Need-same-length
+same-length c = search needs
+
+same-length-2 : tie.Need-same-length-2
+same-length-2 c = search needs
+
+same-length-3 : tie.Need-same-length-3
+same-length-3 c = search needs
+
+same-length-4 : tie.Need-same-length-4
+same-length-4 c = search needs
+
+returns : tie.Need-returns
+returns c =
+    let pruned = c .before .before .prune-confirmed in
+    let u = c .before .before .before .before .before .before .before .before in
+    let aged = u .apply-decay in
+    let v = u .before .before .before .before .before .before .before in
+    let expired = v .expire-pending in
+    let s = v .before .before .before .before .before .before .before in
+    advanced (s .args .state) (given s) (s .pre) (s .args .h) _ (expired .result) (pruned .result) (aged .last .0) (expired .last .0) (aged .last .1 .0) (expired .last .1 .0) (pruned .last .0)
+    decay-is (expired .ensures .0) (expired .ensures .1 .0) (expired .ensures .1 .1) (aged .ensures .0) (aged .ensures .1) (pruned .ensures .0) (pruned .ensures .1)
+
+pub advance-height-spec : {M : Type 1} → statement M
+advance-height-spec =
+    tie.close
+    (tie.spec
+    expire-pending-requires
+    apply-decay-requires
+    prune-confirmed-requires
+    same-length
+    same-length-2
+    same-length-3
+    same-length-4
+    returns)

@@ -1,0 +1,75 @@
+-- `heights::skip_heights` meets its contract: with no last height, or none below h, nothing is done; else the heights between are advanced.
+-- Assumes nothing.
+use borrow.Author.Needs.{needs}
+use native.Mathlib.Omega.{arith}
+use denote.Ref.{now}
+use Rattle.rules.specs.Memory.{Lent, lent}
+use Rattle.heights.proofs.Skip.{no-last, none-between, between}
+use Rattle.heights.proofs.skip_heights.Statement.{statement}
+use Rattle.heights.proofs.skip_heights.Tie as tie
+
+-- the memory at entry
+abbrev given : tie.Start → Lent
+given s = lent (now (s .args .confirmed)) (now (s .args .resolved)) (now (s .args .pending)) (now (s .args .recent))
+
+enum-known-last : tie.Need-enum-known-last
+enum-known-last c = search needs
+
+enum-told : tie.Need-enum-told
+enum-told c = search needs
+
+returns : tie.Need-returns
+returns c =
+    let s = c .before .before .before .before .before .before in
+    no-last (s .args .state) (given s) (s .args .h .0) (s .pre) (c .enum-told .given .1)
+
+returns-2 : tie.Need-returns-2
+returns-2 c =
+    let last = c .before .before .last in
+    let s = c .before .before .before .before .before .before .before .before in
+    none-between (s .args .state) (given s) (s .args .h .0) (s .pre) (last .given .1) (c .if1 .taken)
+
+sub-advance-heights : tie.Need-sub-advance-heights
+sub-advance-heights c = search needs
+
+sub-advance-heights-2 : tie.Need-sub-advance-heights-2
+sub-advance-heights-2 c = search needs
+
+advance-heights-requires : tie.Need-advance-heights-requires
+advance-heights-requires c κs = search needs
+
+same-length : tie.Need-same-length
+same-length c = search needs
+
+same-length-2 : tie.Need-same-length-2
+same-length-2 c = search needs
+
+same-length-3 : tie.Need-same-length-3
+same-length-3 c = search needs
+
+same-length-4 : tie.Need-same-length-4
+same-length-4 c = search needs
+
+returns-3 : tie.Need-returns-3
+returns-3 c =
+    let u = c .before .before .before .before .before .before .before .before in
+    let last = u .before .before .before .before .before .before .before .last in
+    let s = u .before .before .before .before .before .before .before .before .before .before .before .before .before in
+    between (s .args .state) (given s) (s .args .h .0) _ (last .given .1) (omega arith) (u .advance-heights .ensures)
+
+pub skip-heights-spec : {M : Type 1} → statement M
+skip-heights-spec =
+    tie.close
+    (tie.spec
+    enum-known-last
+    enum-told
+    returns
+    returns-2
+    sub-advance-heights
+    sub-advance-heights-2
+    advance-heights-requires
+    same-length
+    same-length-2
+    same-length-3
+    same-length-4
+    returns-3)

@@ -1,0 +1,101 @@
+// Heights advanced over the lent memory, one by one.
+mod expire;
+
+use expire::expire_pending;
+use kinds::Height;
+use kinds::Last;
+use kinds::State;
+ghost use mathlib.Core.Path.{_≡_};
+ghost use Prim.Native.Nat.{_+_, _^_, _<_};
+ghost use Rattle.kinds.specs.Answers.{done};
+ghost use Rattle.rules.specs.Board.{base};
+ghost use Rattle.rules.specs.Estimator.{advance-height, advance-heights, skip-heights};
+ghost use Rattle.rules.specs.Memory.{lent, view};
+ghost use Rattle.rules.specs.Calls.{outcome, accepted};
+ghost use Rattle.ready.specs.Ready.{Ready};
+
+// Height h: pending records gain what they have outwaited, every count decays, and old confirmed records go.
+pub fn advance_height(
+    state: State,
+    confirmed: &mut [f64],
+    resolved: &mut [f64],
+    pending: &mut [u8],
+    recent: &mut [u8],
+    h: Height,
+) -> State
+    requires { ⌜ Ready state (lent (now confirmed) (now resolved) (now pending) (now recent)) ⌝ }
+    ensures { λ r. ⌜
+        outcome done r (lent (now (confirmed .exit)) (now (resolved .exit)) (now (pending .exit)) (now (recent .exit)))
+        ≡ accepted base (advance-height base (h .0) (view base state (lent (now (confirmed .entry)) (now (resolved .entry)) (now (pending .entry)) (now (recent .entry))))) (lent (now (confirmed .entry)) (now (resolved .entry)) (now (pending .entry)) (now (recent .entry))) ⌝ }
+{
+    let used = state.pending;
+    let kept = state.recent;
+    let waiting = expire_pending(resolved, pending, used, h);
+    counts::apply_decay(confirmed, resolved, 0.998);
+    let young = passes::prune_confirmed(recent, kept, h);
+    State {
+        last: Last::At(h),
+        pending: waiting,
+        recent: young,
+    }
+}
+
+// The n heights after `low`, one by one.
+fn advance_heights(
+    state: State,
+    confirmed: &mut [f64],
+    resolved: &mut [f64],
+    pending: &mut [u8],
+    recent: &mut [u8],
+    low: Height,
+    n: u32,
+) -> State
+    requires { ⌜ Ready state (lent (now confirmed) (now resolved) (now pending) (now recent)) ⌝ }
+    requires { ⌜ low .0 + n < 2 ^ 32 ⌝ }
+    ensures { λ r. ⌜
+        outcome done r (lent (now (confirmed .exit)) (now (resolved .exit)) (now (pending .exit)) (now (recent .exit)))
+        ≡ accepted base (advance-heights base (low .0) n (view base state (lent (now (confirmed .entry)) (now (resolved .entry)) (now (pending .entry)) (now (recent .entry))))) (lent (now (confirmed .entry)) (now (resolved .entry)) (now (pending .entry)) (now (recent .entry))) ⌝ }
+{
+    let from = low.0;
+    let mut s = state;
+    let mut i: u32 = 0;
+    while i < n {
+        i += 1;
+        s = advance_height(s, confirmed, resolved, pending, recent, Height(from + i));
+    }
+    s
+}
+
+// If there is a last height, every height strictly between it and h.
+pub fn skip_heights(
+    state: State,
+    confirmed: &mut [f64],
+    resolved: &mut [f64],
+    pending: &mut [u8],
+    recent: &mut [u8],
+    h: Height,
+) -> State
+    requires { ⌜ Ready state (lent (now confirmed) (now resolved) (now pending) (now recent)) ⌝ }
+    ensures { λ r. ⌜
+        outcome done r (lent (now (confirmed .exit)) (now (resolved .exit)) (now (pending .exit)) (now (recent .exit)))
+        ≡ accepted base (skip-heights base (state .last) (h .0) (view base state (lent (now (confirmed .entry)) (now (resolved .entry)) (now (pending .entry)) (now (recent .entry))))) (lent (now (confirmed .entry)) (now (resolved .entry)) (now (pending .entry)) (now (recent .entry))) ⌝ }
+{
+    let last = state.last;
+    let Last::At(low) = last else {
+        return state;
+    };
+    let from = low.0;
+    let to = h.0;
+    if to <= from {
+        return state;
+    }
+    advance_heights(
+        state,
+        confirmed,
+        resolved,
+        pending,
+        recent,
+        low,
+        to - from - 1,
+    )
+}

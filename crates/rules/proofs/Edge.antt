@@ -1,0 +1,70 @@
+-- Edges of the public calls: one call on given memory, its answer, and what the tables and the state are afterwards. Assumes nothing.
+use Prim.Native.Nat.{ℕ, _+_, _-_, _*_}
+use mathlib.Core.Bool.{Bool, true, false, _&&_}
+use mathlib.Core.List.{List, [], _∷_, _++_}
+use lib.Dec.{eqb}
+use lib.ListN.{take, replicate}
+use lib.Ieee.{Float, binary64, toBits}
+use Rattle.kinds.specs.declared.State.{State}
+use Rattle.kinds.specs.declared.Last.{Last}
+use Rattle.kinds.specs.declared.Last.the-variants.{Nothing, At}
+use Rattle.kinds.specs.Answers.{Answer}
+use Rattle.rules.specs.Ids.{Id, same}
+use Rattle.rules.specs.Counts.{Counts, columns, nought, places-of-counts}
+use Rattle.rules.specs.Board.{base}
+use Rattle.rules.specs.Memory.{Lent}
+use Rattle.rules.specs.Calls.{Outcome, start-call, enter-call, leave-call, block-call, estimate-call}
+
+-- ---- counts
+
+-- the same binary64 patterns
+unfoldable pub same-counts : Counts → Counts → Bool
+same-counts [] [] = true
+same-counts [] (y ∷ ys) = false
+same-counts (x ∷ xs) [] = false
+same-counts (x ∷ xs) (y ∷ ys) = eqb (toBits binary64 x) (toBits binary64 y) && same-counts xs ys
+
+-- these counts in the bucket b, and +0.0 elsewhere
+unfoldable pub only : ℕ → List Float → Counts
+only b row = replicate (b * 25) nought ++ row ++ replicate (places-of-counts - (b * 25 + 25)) nought
+
+-- ---- calls
+
+-- an id of one byte and 31 zeros
+abbrev pub id : ℕ → Id
+id n = n ∷ replicate 31 0
+
+-- one call of the base board
+pub data Ask : Type 0 where
+  enters : State → List ℕ → Id → Ask  -- at rate 5,000 and height 100
+  leaves : State → List ℕ → Id → Ask
+  connects : State → Lent → List ℕ → ℕ → Ask  -- the list's bytes, height
+  estimates : Counts → Counts → ℕ → Ask  -- target
+
+-- its answer
+unfoldable pub answer-of : Ask → Answer
+answer-of (enters s xs i) = enter-call base s xs i (record { 0 = 5000 }) (record { 0 = 100 }) .answer
+answer-of (leaves s xs i) = leave-call base s xs i .answer
+answer-of (connects s l ids B) = block-call base s l ids (record { 0 = B }) .answer
+answer-of (estimates c r target) = estimate-call base (record { last = Nothing; pending = 0; recent = 0 }) c r (record { 0 = target })
+
+-- what an edge says
+pub data Edge : Type 0 where
+  -- the call gets this number, and the answer carries this
+  says : Ask → ℕ → List ℕ → Edge
+  -- a fresh start on this memory gets this number
+  starts : Lent → ℕ → Edge
+  -- a block leaves these tables and used numbers
+  leaves-tables : State → Lent → List ℕ → ℕ → List ℕ → List ℕ → ℕ → ℕ → Edge
+  -- a block leaves these counts in a bucket, and +0.0 elsewhere
+  leaves-counts : State → Lent → List ℕ → ℕ → ℕ → List Float → List Float → Edge
+
+unfoldable pub holds-true : Edge → Bool
+holds-true (says q n carried) = let a = answer-of q in eqb (a .number) n && same (a .carries) carried
+holds-true (starts l n) = eqb (start-call base l .answer .number) n
+holds-true (leaves-tables s l ids B pending recent p r) =
+    let o = block-call base s l ids (record { 0 = B }) in
+    same (o .lent .pending) pending && (same (o .lent .recent) recent && (eqb (o .state .pending) p && eqb (o .state .recent) r))
+holds-true (leaves-counts s l ids B b confirmed resolved) =
+    let o = block-call base s l ids (record { 0 = B }) in
+    same-counts (take places-of-counts (o .lent .confirmed)) (only b confirmed) && same-counts (take places-of-counts (o .lent .resolved)) (only b resolved)
