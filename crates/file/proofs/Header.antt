@@ -1,7 +1,7 @@
 -- What the parts of the header read, case by case. No contract cites this file. Assumes nothing.
-use mathlib.Core.Path.{_≡_, refl, sym, ap, _∙_, subst}
+use mathlib.Core.Path.{_≡_, refl, sym, ap, _∙_}
 use mathlib.Core.List.{List, [], _∷_, _++_, append-nil}
-use mathlib.Core.Bool.{Bool, true, false, cond, true≢false, false≢true}
+use mathlib.Core.Bool.{Bool, true, false, cond}
 use Prim.Native.Nat.{ℕ, zero, suc, _+_, _≤_, _<_}
 use native.Mathlib.Omega.{arith}
 use borrow.Author.Tests.{eq-eqb, ne-eqb, le-leb}
@@ -9,10 +9,10 @@ use lib.Dec.{eqb}
 use lib.ListN.{length, take, drop, getD}
 use Rattle.kinds.specs.declared.Last.{Last}
 use Rattle.kinds.specs.declared.Last.the-variants.{Nothing, At}
-use Rattle.kinds.specs.Answers.{Answer, bad-magic, unknown-version, corrupt}
+use Rattle.kinds.specs.Answers.{bad-magic, unknown-version, corrupt}
 use Rattle.rules.specs.Ids.{same}
 use Rattle.rules.specs.Ladder.{buckets}
-use Rattle.format.specs.Parts.{Read, stopped, got, Part, _>>=_, _>>_, and-then, give, refuse, must, takes, number, Parsed, bad, good, begun, is-read}
+use Rattle.format.specs.Parts.{Read, stopped, got, _>>=_, _>>_, and-then, give, refuse, must, takes, number, bad, good, begun, is-read}
 use Rattle.words.specs.Le.{le-at}
 use Rattle.format.specs.File.{version-1, magic, last-bytes, head-bytes, read-flagged, read-last, read-bucket-count, with-bucket-count, read-start, read-after, read-head}
 use lib.Seq.{sets}

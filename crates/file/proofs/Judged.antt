@@ -1,13 +1,13 @@
 -- The judging of a whole file, case by case. No contract cites this file. Assumes nothing.
-use mathlib.Core.Path.{_≡_, refl, sym, ap, _∙_}
-use mathlib.Core.Bool.{Bool, true, false, cond}
+use mathlib.Core.Path.{_≡_, sym, ap, _∙_}
+use mathlib.Core.Bool.{true, false}
 use mathlib.Core.List.{List}
-use Prim.Native.Nat.{ℕ, _+_, _*_, _≤_, _<_}
+use Prim.Native.Nat.{ℕ, _+_, _≤_}
 use lib.ListN.{length, drop}
 use Rattle.kinds.specs.declared.Last.{Last}
 use Rattle.kinds.specs.Answers.{corrupt}
 use Rattle.rules.specs.Ladder.{buckets}
-use Rattle.format.specs.Parts.{Parsed, bad, good, begun, ended, is-read}
+use Rattle.format.specs.Parts.{bad, good, ended, is-read}
 use Rattle.format.specs.File.{version-1, rates, read-buckets, read-tables, read-history}
 use Rattle.codec.specs.Places.{buckets-size}
 use Rattle.codec.proofs.Rated.{both-rows}

@@ -1,11 +1,11 @@
 -- What the two tables of a file read, told by places: each is read where its number, its records and its length pass, and is corrupt otherwise. Assumes nothing.
 use mathlib.Core.Path.{_≡_, refl, sym, ap, _∙_, subst}
-use mathlib.Core.Bool.{Bool, true, false, _&&_, cond}
+use mathlib.Core.Bool.{Bool, true, false, _&&_}
 use mathlib.Core.List.{List, [], _∷_, map}
 use Prim.Native.Nat.{ℕ, zero, suc, _+_, _-_, _*_, _≤_, _<_}
 use native.Mathlib.Omega.{arith}
 use native.Mathlib.Nat.{suc-mul, zero-mul}
-use lib.Dec.{leb, eqb}
+use lib.Dec.{leb}
 use lib.ListN.{length, take, drop, length-drop}
 use lib.Seq.{drop-drop}
 use borrow.Author.Tests.{le-leb, lt-leb}
@@ -14,12 +14,12 @@ use Rattle.rules.specs.Lists.{every}
 use Rattle.rules.specs.Ladder.{last-bucket}
 use Rattle.rules.specs.Counts.{columns}
 use Rattle.rules.specs.Records.{records}
-use Rattle.rules.specs.Board.{Pending, Confirmed, pending-size, pending-of, confirmed-size, confirmed-of, in-range, pending-most, confirmed-most}
+use Rattle.rules.specs.Board.{Pending, pending-size, pending-of, confirmed-size, confirmed-of, in-range, pending-most, confirmed-most}
 use Rattle.seqs.proofs.Cut.{part-take}
 use Rattle.words.specs.Le.{le-at}
-use Rattle.format.specs.Parts.{Read, stopped, got, Part, give, number, times, Parsed, bad, good, ended}
+use Rattle.format.specs.Parts.{Read, stopped, got, Part, give, number, times, bad, good, ended}
 use Rattle.format.specs.File.{version-1, read-pending, read-confirmed, read-table, Tables, read-tables}
-use Rattle.codec.proofs.Tells.{then-got, then-stopped, must-yes, must-no, number-at, number-short, Tells, tells-give, tells-must, tells-to, tells-then, tells-last, tells-takes, Takes, too-short, takes-give, takes-takes, takes-if, takes-then, takes-as, takes-times}
+use Rattle.codec.proofs.Tells.{then-got, then-stopped, must-yes, must-no, number-at, number-short, Tells, tells-give, tells-must, tells-to, tells-then, tells-last, tells-takes, Takes, too-short, takes-give, takes-takes, takes-if, takes-then, takes-times}
 use Rattle.file.specs.Places.{pendings, recents}
 
 -- ---- records, over their size

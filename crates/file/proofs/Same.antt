@@ -1,12 +1,12 @@
 -- Two lists of bytes are the same exactly when their numbers are. No contract cites this file. Assumes nothing.
-use mathlib.Core.Path.{_≡_, refl, sym, ap, _∙_}
+use mathlib.Core.Path.{_≡_, refl, ap, _∙_}
 use mathlib.Core.List.{List, [], _∷_}
 use mathlib.Core.Bool.{Bool, true, false, _&&_}
-use Prim.Native.Nat.{ℕ, zero, suc, _+_, _*_, _≤_, _<_}
+use Prim.Native.Nat.{ℕ, _+_, _*_, _≤_, _<_}
 use native.Mathlib.Omega.{arith}
 use borrow.Author.Tests.{eq-eqb, ne-eqb, eqb-true, eqb-false}
-use lib.Dec.{T, eqb, ltb, lt→ltb, ltb→lt}
-use lib.Ieee.Fits.{and-i, and-l, and-r}
+use lib.Dec.{T, eqb, ltb, ltb→lt}
+use lib.Ieee.Fits.{and-l, and-r}
 use lib.Pow.{areBytes}
 use lib.ListN.{length, take, getD}
 use lib.Seq.{length-take-le}

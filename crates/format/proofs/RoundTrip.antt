@@ -1,46 +1,32 @@
--- Reading what a write wrote restores the state and the memory; writing what was read gives the file back exactly when its ids rise.
--- Both rest on `written-is-read` and `read-is-written`, and on the order: records whose ids rise are placed as they stand.
--- Assumes nothing.
-use mathlib.Core.Path.{_≡_, refl, sym, ap, _∙_, subst}
+-- Reading what a write wrote restores the state and the memory: sound memory can be written, what was written is read, and its records, whose ids
+-- rise, are placed as they stand. Assumes nothing.
+use mathlib.Core.Path.{_≡_, refl, ap, _∙_}
 use mathlib.Core.Bool.{Bool, true, false, _&&_}
 use mathlib.Core.List.{List}
-use Prim.Native.Nat.{ℕ, _/_, _≤_, _<_}
+use Prim.Native.Nat.{ℕ, _/_, _≤_}
 use native.Mathlib.Nat.{le-trans, min-le-right}
 use native.Mathlib.Omega.{arith}
-use lib.Dec.{T, ltb}
-use lib.ListN.{length, take, drop, getD, length-take}
-use lib.Seq.{take-at, getD-take}
-use lib.Pow.{areBytes}
-use lib.Ieee.{Float, nan, binary64, fits}
+use lib.Dec.{ltb}
+use lib.ListN.{length, take, drop}
+use lib.Seq.{take-at}
 use borrow.Author.Tests.{le-leb}
 use Rattle.kinds.specs.declared.State.{State}
 use Rattle.kinds.specs.Answers.{done}
-use Rattle.rules.specs.Counts.{places-of-counts}
 use Rattle.rules.specs.Board.{Board, Lawful, confirmed-size, pending-most, confirmed-most}
 use Rattle.rules.specs.Estimator.{Estimator}
 use Rattle.rules.specs.Records.{sound-table}
 use Rattle.rules.specs.Memory.{Lent, enough, sound, sound-counts, sound-pending, sound-confirmed, view, state-of}
 use Rattle.rules.specs.Calls.{outcome, accepted}
-use Rattle.rules.proofs.All.{All}
 use Rattle.rules.proofs.Records.{and-left, and-right, used-within}
 use Rattle.rules.proofs.Ids.{rising-of}
 use Rattle.rules.proofs.Memory.{lay-of-view, state-of-view}
 use Rattle.rules.proofs.Well.{Well}
 use Rattle.rules.proofs.Sound.{view-well}
-use Rattle.floats.proofs.Count.{Counted}
-use Rattle.floats.proofs.Steps.{all-counted}
+use Rattle.ready.proofs.Stays.{Typed, counts-of}
 use Rattle.format.specs.File.{Version, history-of, restored}
 use Rattle.format.specs.Calls.{Output, write-call, has-room, taken-in, read-call}
 use Rattle.format.proofs.Back.{LawfulVersion, Short, Writable, written-is-read}
 use Rattle.format.proofs.Order.{restored-same}
-
--- what the types of the code say of a state and of lent memory: a height of four bytes, bytes, binary64 numbers
-pub record Typed (s : State) (l : Lent) : Type 0 where
-  pub last : Short (s .last)
-  pub confirmed : (i : ℕ) → i < length (l .confirmed) → T (fits binary64 (getD (l .confirmed) i nan))
-  pub resolved : (i : ℕ) → i < length (l .resolved) → T (fits binary64 (getD (l .resolved) i nan))
-  pub pending : T (areBytes (l .pending))
-  pub recent : T (areBytes (l .recent))
 
 -- the file that a write left
 abbrev pub written : Output → List ℕ
@@ -52,20 +38,10 @@ restored-well e w = restored-same e (rising-of (λ r. r .id) (w .pending-up)) (r
 
 -- ---- sound memory can be written
 
-part-fits : (n : ℕ) (xs : List Float) → ((i : ℕ) → i < length xs → T (fits binary64 (getD xs i nan)))
-    → (i : ℕ) → i < length (take n xs) → T (fits binary64 (getD (take n xs) i nan))
-part-fits n xs f i h =
-    let e = length-take n xs in
-    subst (λ (x : Float). T (fits binary64 x)) (sym (getD-take n xs i nan (omega arith))) (f i (omega arith))
-
-counts-counted : (xs : List Float) → sound-counts xs ≡ true → ((i : ℕ) → i < length xs → T (fits binary64 (getD xs i nan))) → All Counted (take places-of-counts xs)
-unfolding sound-counts
-counts-counted xs h f = all-counted (take places-of-counts xs) (and-right (enough xs) _ h) (part-fits places-of-counts xs f)
-
-used-few : (size most used : ℕ) (xs : List ℕ) → sound-table size most used xs ≡ true → used ≤ most
+pub used-few : (size most used : ℕ) (xs : List ℕ) → sound-table size most used xs ≡ true → used ≤ most
 used-few size most used xs h = le-trans (used-within size most used xs h) (min-le-right (length xs / size) most)
 
-module _ (k : Board) (law : Lawful k) (s : State) (l : Lent) (t : Typed s l) (h : sound k s l ≡ true) where
+module _ (k : Board) (law : Lawful k) (s : State) (l : Lent) (short : Short (s .last)) (t : Typed l) (h : sound k s l ≡ true) where
   pub view-writable : Writable (view k s l)
   unfolding sound sound-pending sound-confirmed state-of view
   view-writable =
@@ -77,11 +53,11 @@ module _ (k : Board) (law : Lawful k) (s : State) (l : Lent) (t : Typed s l) (h 
       let n : length (view k s l .pending) ≡ s .pending = ap (λ (q : State). q .pending) (state-of-view k s l) in
       let m : length (view k s l .recent) ≡ s .recent = ap (λ (q : State). q .recent) (state-of-view k s l) in
       record {
-        last = t .last;
+        last = short;
         confirmed-places = w .confirmed;
         resolved-places = w .resolved;
-        confirmed = counts-counted (l .confirmed) (and-left (sound-counts (l .confirmed)) _ h) (t .confirmed);
-        resolved = counts-counted (l .resolved) (and-left (sound-counts (l .resolved)) _ rest) (t .resolved);
+        confirmed = counts-of (l .confirmed) (and-left (sound-counts (l .confirmed)) _ h) (t .confirmed);
+        resolved = counts-of (l .resolved) (and-left (sound-counts (l .resolved)) _ rest) (t .resolved);
         pending-few = rw n (used-few (k .table .size) pending-most (s .pending) (l .pending) p);
         recent-few = rw m (used-few confirmed-size confirmed-most (s .recent) (l .recent) r);
         pending = w .pending;
@@ -123,19 +99,19 @@ wrote v k s l out = go (sound k s l) refl (ltb (length out) (length f)) refl
     go true p true q e = absurd (let z : _≡_ {A = ℕ} 12 0 = rw (p, q) at e in omega arith)
     go false p c q e = absurd (let z : _≡_ {A = ℕ} 1 0 = rw p at e in omega arith)
 
-module _ (v : Version) (vlaw : LawfulVersion v) (k : Board) (law : Lawful k) (s : State) (l : Lent) (t : Typed s l) (out : List ℕ) (d : write-call v k s l out .answer .number ≡ 0) where
+module _ (v : Version) (vlaw : LawfulVersion v) (k : Board) (law : Lawful k) (s : State) (l : Lent) (short : Short (s .last)) (t : Typed l) (out : List ℕ) (d : write-call v k s l out .answer .number ≡ 0) where
   -- Into any memory that has room for it, a reading of what was written brings the estimator that was written.
   pub written-is-restored : (m : Lent) → (enough (m .confirmed) && enough (m .resolved)) ≡ true → has-room k m (view k s l) ≡ true
       → read-call v k m (written (write-call v k s l out .lent)) ≡ accepted k (view k s l) m
   unfolding read-call taken-in
   written-is-restored m e r =
       let w = wrote v k s l out d in
-      let g = view-writable k law s l t (w .sound-was) in
+      let g = view-writable k law s l short t (w .sound-was) in
       rw (w .file, e, written-is-read v vlaw (view k s l) g, r, restored-well (view k s l) (view-well k law s l (w .sound-was) (t .pending) (t .recent)))
 
   -- Into its own memory: the state and all lent bytes are as they were.
   pub round-trip : read-call v k l (written (write-call v k s l out .lent)) ≡ outcome done s l
   round-trip =
       let w = wrote v k s l out d in
-      written-is-restored l (own-enough k law s l t (w .sound-was)) (own-room k law s l t (w .sound-was))
+      written-is-restored l (own-enough k law s l short t (w .sound-was)) (own-room k law s l short t (w .sound-was))
       ∙ rw (state-of-view k s l, lay-of-view k law s l (w .sound-was) (t .pending) (t .recent))

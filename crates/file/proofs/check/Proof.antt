@@ -1,15 +1,11 @@
-use mathlib.Core.Path.{_≡_, refl, sym, ap, _∙_}
+-- `file::check` meets its contract: a header that is refused refuses the file, and a good one leaves the rest to `check_rest`. Assumes nothing.
+use mathlib.Core.Path.{sym, ap, _∙_}
 use Rattle.kinds.specs.Answers.{bad-magic, unknown-version, corrupt}
-use Rattle.format.specs.Parts.{bad, good}
 use Rattle.file.proofs.Whole.{head-refused}
 use Rattle.file.specs.Says.{header-says, file-says, said}
 use borrow.Author.Needs.{needs}
 use Rattle.file.proofs.check.Statement.{statement}
 use Rattle.file.proofs.check.Tie as tie
-use Rattle.file.proofs.check.Reads as reads
-use Rattle.file.proofs.check.Lts as lts
-use Rattle.file.proofs.check_rest.Reads as check-rest-reads
-use Rattle.file.proofs.head.read_header.Reads as read-header-reads
 
 read-header-requires : tie.Need-read-header-requires
 read-header-requires c κs = search needs

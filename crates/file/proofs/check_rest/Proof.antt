@@ -1,20 +1,13 @@
-use mathlib.Core.Path.{_≡_, refl, sym, ap, _∙_}
-use mathlib.Core.Bool.{Bool, true, false}
-use Prim.Native.Nat.{ℕ, _+_, _≤_, _<_}
+-- `file::check_rest` meets its contract: the buckets by their length and their test, then the tables. Assumes nothing.
+use mathlib.Core.Path.{sym, _∙_}
 use native.Mathlib.Omega.{arith}
 use borrow.Author.Tests.{not-true, not-false}
-use Rattle.format.specs.Parts.{bad, good}
-use Rattle.file.proofs.Whole.{Headed, headed, file-short, file-bad}
+use Rattle.file.proofs.Whole.{headed, file-short, file-bad}
 use Rattle.file.specs.Says.{file-says, said}
 use Rattle.file.proofs.Judged.{tables-good, tables-bad}
 use borrow.Author.Needs.{needs}
 use Rattle.file.proofs.check_rest.Statement.{statement}
 use Rattle.file.proofs.check_rest.Tie as tie
-use Rattle.file.proofs.check_rest.Reads as reads
-use Rattle.file.proofs.check_rest.Lts as lts
-use Rattle.codec.proofs.buckets.buckets_ok.Reads as buckets-ok-reads
-use Rattle.file.proofs.head.header_len.Reads as header-len-reads
-use Rattle.file.proofs.tables.read_tables.Reads as read-tables-reads
 
 header-len-requires : tie.Need-header-len-requires
 header-len-requires c κs = search needs

@@ -1,14 +1,12 @@
-use mathlib.Core.Path.{_≡_, sym, ap, _∙_}
-use Prim.Native.Nat.{ℕ, _+_, _≤_, _<_}
+-- `file::head::counted` meets its contract: four bytes, and their number. Assumes nothing.
+use mathlib.Core.Path.{sym, ap, _∙_}
+use Prim.Native.Nat.{ℕ}
 use native.Mathlib.Omega.{arith}
 use lib.Dec.{eqb}
 use Rattle.file.proofs.Header.{count-short, count-is}
 use borrow.Author.Needs.{needs}
 use Rattle.file.proofs.head.counted.Statement.{statement}
 use Rattle.file.proofs.head.counted.Tie as tie
-use Rattle.file.proofs.head.counted.Reads as reads
-use Rattle.file.proofs.head.counted.Lts as lts
-use Rattle.words.proofs.u32_le.Reads as u32-le-reads
 
 sub-if1 : tie.Need-sub-if1
 sub-if1 c = search needs

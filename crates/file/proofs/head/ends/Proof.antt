@@ -1,13 +1,10 @@
-use mathlib.Core.Path.{_≡_, sym, ap, _∙_}
-use Rattle.format.specs.Parts.{good, bad}
+-- `file::head::ends` meets its contract, by the bucket count. Assumes nothing.
+use mathlib.Core.Path.{sym, _∙_}
 use Rattle.file.specs.Says.{header-says}
 use Rattle.file.proofs.Header.{with-yes, with-no}
 use borrow.Author.Needs.{needs}
 use Rattle.file.proofs.head.ends.Statement.{statement}
 use Rattle.file.proofs.head.ends.Tie as tie
-use Rattle.file.proofs.head.ends.Reads as reads
-use Rattle.file.proofs.head.ends.Lts as lts
-use Rattle.file.proofs.head.counted.Reads as counted-reads
 
 counted-requires : tie.Need-counted-requires
 counted-requires c κs = search needs

@@ -1,12 +1,11 @@
+-- `file::head::header_len` meets its contract, by the last height. Assumes nothing.
 use Rattle.kinds.specs.declared.Last.{Last}
-use mathlib.Core.Path.{_≡_, sym, ap, _∙_}
-use Prim.Native.Nat.{ℕ, _+_}
+use mathlib.Core.Path.{sym, ap}
+use Prim.Native.Nat.{_+_}
 use Rattle.format.specs.File.{height-length}
 use borrow.Author.Needs.{needs}
 use Rattle.file.proofs.head.header_len.Statement.{statement}
 use Rattle.file.proofs.head.header_len.Tie as tie
-use Rattle.file.proofs.head.header_len.Reads as reads
-use Rattle.file.proofs.head.header_len.Lts as lts
 
 enum-told : tie.Need-enum-told
 enum-told c = search needs

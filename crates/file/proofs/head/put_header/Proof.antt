@@ -1,5 +1,6 @@
+-- `file::head::put_header` meets its contract: three puts one after the other are one put of the header's bytes. Assumes nothing.
 use Prim.Native.Nat.{ℕ}
-use mathlib.Core.Path.{_≡_, refl, sym, ap, _∙_}
+use mathlib.Core.Path.{ap, _∙_}
 use mathlib.Core.List.{List, _++_}
 use lib.Seq.{sets}
 use Rattle.rules.specs.Bytes.{bytes}
@@ -8,11 +9,6 @@ use Rattle.file.proofs.Header.{put-head}
 use borrow.Author.Needs.{needs}
 use Rattle.file.proofs.head.put_header.Statement.{statement}
 use Rattle.file.proofs.head.put_header.Tie as tie
-use Rattle.file.proofs.head.put_header.Reads as reads
-use Rattle.file.proofs.head.put_header.Lts as lts
-use Rattle.file.proofs.head.put_last.Reads as put-last-reads
-use Rattle.codec.proofs.numbers.put_u64.Reads as put-u64-reads
-use Rattle.words.proofs.put_u32.Reads as put-u32-reads
 
 put-u64-requires : tie.Need-put-u64-requires
 put-u64-requires c κs = search needs

@@ -1,21 +1,16 @@
-use mathlib.Core.Path.{_≡_, refl, sym, ap, _∙_}
-use mathlib.Core.List.{List, [], _∷_, _++_}
-use Prim.Native.Nat.{ℕ, _+_, _≤_}
+-- `file::head::put_last` meets its contract, by the last height: the puts stand one after the other. Assumes nothing.
+use mathlib.Core.Path.{sym, ap, _∙_}
+use mathlib.Core.List.{List, _++_}
+use Prim.Native.Nat.{ℕ, _+_}
 use native.Mathlib.Omega.{arith}
-use lib.ListN.{length}
 use lib.Seq.{sets}
 use Rattle.kinds.specs.declared.Last.{Last}
-use Rattle.kinds.specs.declared.Last.the-variants.{Nothing, At}
 use Rattle.rules.specs.Bytes.{bytes}
 use Rattle.format.specs.File.{height-length, last-bytes}
 use Rattle.file.proofs.Header.{put-none, put-at}
 use borrow.Author.Needs.{needs}
 use Rattle.file.proofs.head.put_last.Statement.{statement}
 use Rattle.file.proofs.head.put_last.Tie as tie
-use Rattle.file.proofs.head.put_last.Reads as reads
-use Rattle.file.proofs.head.put_last.Lts as lts
-use Rattle.codec.proofs.numbers.put_u8.Reads as put-u8-reads
-use Rattle.words.proofs.put_u32.Reads as put-u32-reads
 
 enum-told : tie.Need-enum-told
 enum-told c = search needs

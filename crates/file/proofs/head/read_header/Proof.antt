@@ -1,25 +1,18 @@
+-- `file::head::read_header` meets its contract: each return is one case of `Header`, in the order that the bytes come. Assumes nothing.
 use mathlib.Core.Path.{_≡_, sym, ap, _∙_}
-use mathlib.Core.Bool.{Bool, true, false}
-use Prim.Native.Nat.{ℕ, _+_, _≤_, _<_}
+use Prim.Native.Nat.{ℕ, _≤_}
 use native.Mathlib.Omega.{arith}
 use borrow.Author.Tests.{eq-eqb, ne-eqb}
-use lib.ListN.{length, take, drop, getD}
+use lib.ListN.{length}
 use Rattle.kinds.specs.Answers.{unknown-version}
-use Rattle.rules.specs.Ids.{same}
-use Rattle.format.specs.Parts.{Parsed, begun, good, bad}
+use Rattle.format.specs.Parts.{begun, bad}
 use Rattle.words.specs.Le.{le-at}
-use Rattle.format.specs.File.{magic}
 use Rattle.file.specs.Says.{header-says}
 use Rattle.file.proofs.Same.{is-magic}
 use Rattle.file.proofs.Header.{head-short, head-other, head-no-version, head-version, head-one}
 use borrow.Author.Needs.{needs}
 use Rattle.file.proofs.head.read_header.Statement.{statement}
 use Rattle.file.proofs.head.read_header.Tie as tie
-use Rattle.file.proofs.head.read_header.Reads as reads
-use Rattle.file.proofs.head.read_header.Lts as lts
-use Rattle.file.proofs.head.starts.Reads as starts-reads
-use Rattle.codec.proofs.numbers.u64_le.Reads as u64-le-reads
-use Rattle.words.proofs.u32_le.Reads as u32-le-reads
 
 returns : tie.Need-returns
 unfolding header-says begun

@@ -1,19 +1,16 @@
+-- `file::head::starts` meets its contract: each return is one case of the flag. Assumes nothing.
 use mathlib.Core.Path.{_≡_, sym, ap, _∙_}
-use Prim.Native.Nat.{ℕ, _+_, _≤_, _<_}
+use Prim.Native.Nat.{ℕ}
 use native.Mathlib.Omega.{arith}
-use lib.ListN.{length, drop, getD}
+use lib.ListN.{drop, getD}
 use Rattle.kinds.specs.declared.Last.the-variants.{At}
-use Rattle.format.specs.Parts.{begun, good, bad}
+use Rattle.format.specs.Parts.{begun}
 use Rattle.format.specs.File.{with-bucket-count}
 use Rattle.file.specs.Says.{header-says}
 use Rattle.file.proofs.Header.{no-flag, flag-none, flag-other, flag-short, flag-at}
 use borrow.Author.Needs.{needs}
 use Rattle.file.proofs.head.starts.Statement.{statement}
 use Rattle.file.proofs.head.starts.Tie as tie
-use Rattle.file.proofs.head.starts.Reads as reads
-use Rattle.file.proofs.head.starts.Lts as lts
-use Rattle.file.proofs.head.ends.Reads as ends-reads
-use Rattle.words.proofs.u32_le.Reads as u32-le-reads
 
 returns : tie.Need-returns
 unfolding header-says begun

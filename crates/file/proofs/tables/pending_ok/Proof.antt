@@ -1,6 +1,7 @@
-use mathlib.Core.Path.{_≡_, refl, sym, ap, _∙_}
+-- `file::tables::pending_ok` meets its contract. The invariant: all records pass exactly when those from `i` on do. Assumes nothing.
+use mathlib.Core.Path.{_≡_, sym, ap, _∙_}
 use mathlib.Core.Bool.{Bool, _&&_}
-use Prim.Native.Nat.{ℕ, _+_, _*_, _-_, _≤_, zero-le}
+use Prim.Native.Nat.{_+_, _*_, _-_, _≤_, zero-le}
 use native.Mathlib.Nat.{add-zero, sub-zero}
 use native.Mathlib.Omega.{arith}
 use Rattle.rules.specs.Lists.{every}
@@ -9,9 +10,6 @@ use Rattle.file.specs.Places.{pendings}
 use Rattle.file.proofs.Listed.{pendings-next, pendings-none}
 use Rattle.file.proofs.tables.pending_ok.Statement.{statement}
 use Rattle.file.proofs.tables.pending_ok.Tie as tie
-use Rattle.file.proofs.tables.pending_ok.Reads as reads
-use Rattle.file.proofs.tables.pending_ok.Lts as lts
-use Rattle.file.proofs.tables.record_ok.Reads as record-ok-reads
 
 abbrev Inv-loop : tie.InvT-loop
 Inv-loop s at n i₀ i = (i ≤ n) × (every in-range (pendings s at n) ≡ every in-range (pendings s (at + 44 * i) (n - i)))

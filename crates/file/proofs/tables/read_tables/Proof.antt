@@ -1,12 +1,12 @@
-use mathlib.Core.Path.{_≡_, refl, sym, ap, _∙_}
-use mathlib.Core.Bool.{Bool, true, false, cond}
+-- `file::tables::read_tables` meets its contract: each return is one case of `Listed`, in the order that the bytes come. Assumes nothing.
+use mathlib.Core.Path.{_≡_, refl, sym, _∙_}
+use mathlib.Core.Bool.{false}
 use mathlib.Core.List.{List}
-use Prim.Native.Nat.{ℕ, _+_, _*_, _≤_, _<_}
+use Prim.Native.Nat.{ℕ, _+_, _*_}
 use native.Mathlib.Omega.{arith}
 use borrow.Author.Tests.{not-true, not-false}
-use lib.ListN.{length}
 use Rattle.kinds.specs.Answers.{corrupt}
-use Rattle.format.specs.Parts.{Parsed, bad, good}
+use Rattle.format.specs.Parts.{bad}
 use Rattle.words.specs.Le.{le-at}
 use Rattle.rules.specs.Board.{pending-most, confirmed-most}
 use Rattle.format.specs.File.{version-1, read-pending, read-confirmed}
@@ -16,11 +16,6 @@ use Rattle.file.specs.declared.tables.Sizes.{Sizes}
 use borrow.Author.Needs.{needs}
 use Rattle.file.proofs.tables.read_tables.Statement.{statement}
 use Rattle.file.proofs.tables.read_tables.Tie as tie
-use Rattle.file.proofs.tables.read_tables.Reads as reads
-use Rattle.file.proofs.tables.read_tables.Lts as lts
-use Rattle.file.proofs.tables.pending_ok.Reads as pending-ok-reads
-use Rattle.file.proofs.tables.unreadable.Reads as unreadable-reads
-use Rattle.words.proofs.u32_le.Reads as u32-le-reads
 
 unreadable-says : (r : Sizes) (s : List ℕ) (at : ℕ) → r .ok ≡ false → tables-say r s at ≡ bad corrupt
 unfolding tables-say

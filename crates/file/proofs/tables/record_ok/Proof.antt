@@ -1,5 +1,5 @@
-use mathlib.Core.Path.{_≡_, sym, ap, _∙_}
-use mathlib.Core.Bool.{Bool, _&&_}
+-- `file::tables::record_ok` meets its contract: the two fields that are in range or not. Assumes nothing.
+use mathlib.Core.Path.{sym, ap, _∙_}
 use Prim.Native.Nat.{ℕ, _+_, _≤_, _<_}
 use native.Mathlib.Omega.{arith}
 use lib.Dec.{leb}
@@ -9,9 +9,6 @@ use Rattle.file.proofs.Listed.{in-range-at}
 use borrow.Author.Needs.{needs}
 use Rattle.file.proofs.tables.record_ok.Statement.{statement}
 use Rattle.file.proofs.tables.record_ok.Tie as tie
-use Rattle.file.proofs.tables.record_ok.Reads as reads
-use Rattle.file.proofs.tables.record_ok.Lts as lts
-use Rattle.words.proofs.u32_le.Reads as u32-le-reads
 
 add-u32-le : tie.Need-add-u32-le
 add-u32-le c = search needs
