@@ -17,13 +17,9 @@ use Rattle.table.specs.Edit.{insert-at}
 use Rattle.words.specs.Moves.{zeroed}
 use Rattle.table.specs.declared.Found.the-variants.{At, Gap}
 use Rattle.table.proofs.Records.{sized-set, sized-at}
-use Rattle.table.proofs.Laid.{laid-more, sets-bytes, length-insert}
+use Rattle.table.proofs.Laid.{laid-more, record-bytes, length-insert}
 use Rattle.table.proofs.Search.{at-told, gap-told}
 use Rattle.table.proofs.View.{gap-placed, at-set}
-
--- a record set over another of its length
-set-over : (r s : List ℕ) → length s ≡ length r → sets s 0 r ≡ r
-set-over r s e = sets-eq r s 0 (omega arith) ∙ rw (zero-add, drop-of-length-le s {i = length r} (omega arith)) (append-nil r)
 
 module _ (size used at : ℕ) (rec xs : List ℕ) (up : rising (map id-of (records size used xs)) ≡ true) where
   abbrev rs : List (List ℕ)
@@ -42,10 +38,7 @@ module _ (size used at : ℕ) (rec xs : List ℕ) (up : rising (map id-of (recor
     at-count = sym (ap length (sym at-is) ∙ length-set rs at rec ∙ length-records size used xs)
 
     pub at-bytes : length rec ≡ size → used * size ≤ length xs → sets xs (at * size) rec ≡ laid size used (placed id-of rec rs) xs
-    at-bytes l h =
-        let m : at < length rs = rw length-records at-within in
-        let o : sets (getD rs at []) 0 rec ≡ rec = set-over rec (getD rs at []) (sized-at size at rs (sized-records size used xs h) m ∙ sym l) in
-        ap (λ (q : ℕ). sets xs q rec) (sym (add-zero (at * size))) ∙ sets-bytes size used at 0 rec xs at-within (omega arith) h ∙ rw (o, at-is)
+    at-bytes l h = record-bytes size used at rec xs at-within l h ∙ rw at-is
 
     sized-placed : length rec ≡ size → used * size ≤ length xs → Sized size (placed id-of rec rs)
     sized-placed l h = rw (← at-is) (sized-set size at rec rs l (sized-records size used xs h))
