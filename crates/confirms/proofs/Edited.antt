@@ -22,12 +22,11 @@ use Rattle.rules.proofs.Memory.{pending-kept, confirmed-kept, ConfirmedFits, fo
 use Rattle.table.specs.Search.{find-in}
 use Rattle.table.specs.Edit.{insert-at, remove-at}
 use Rattle.table.specs.Fields.{with-field}
-use Rattle.table.specs.declared.Found.{Found}
 use Rattle.table.specs.declared.Found.the-variants.{At, Gap}
 use Rattle.table.proofs.Fields.{length-with-field}
 use Rattle.table.proofs.Records.{length-ids, cap-room, sized-insert, sized-remove, sized-set, sized-at}
 use Rattle.table.proofs.Search.{at-told, gap-told}
-use Rattle.table.proofs.Sound.{Sound, sound-told, sound-room, laid-up}
+use Rattle.table.proofs.Sound.{sound-told, sound-room, laid-up}
 use Rattle.table.proofs.Laid.{laid-same}
 use Rattle.table.proofs.Steps.{pending-missing, pending-there, pending-found, pending-lost, pending-without, confirmed-not-held, confirmed-held, confirmed-new, confirmed-again}
 
@@ -44,11 +43,15 @@ pub searchable : (size most used : ℕ) (xs i : List ℕ) → 32 ≤ size → so
 searchable size most used xs i h s e = let g = sound-told size most used xs s in ((h, sound-room size most used xs g), (g .rise, e))
 
 -- a record that is found is a used one, and a place that is found is among them or after them
-pub at-used : (size used n : ℕ) (xs : List ℕ) (i : Id) → find-in i (map id-of (records size used xs)) ≡ At n → n < used
+at-used : (size used n : ℕ) (xs : List ℕ) (i : Id) → find-in i (map id-of (records size used xs)) ≡ At n → n < used
 at-used size used n xs i f = let t = at-told i (map id-of (records size used xs)) n f in omega (arith, t .within, length-ids size used xs)
 
 pub gap-used : (size used n : ℕ) (xs : List ℕ) (i : Id) → find-in i (map id-of (records size used xs)) ≡ Gap n → n ≤ used
 gap-used size used n xs i f = let t = gap-told i (map id-of (records size used xs)) n f in omega (arith, t .within, length-ids size used xs)
+
+-- what reading or changing the record that is found asks
+pub in-table : (size most used n : ℕ) (xs : List ℕ) (i : Id) → sound-table size most used xs ≡ true → find-in i (map id-of (records size used xs)) ≡ At n → (n < used) × (used * size ≤ length xs)
+in-table size most used n xs i s f = (at-used size used n xs i f, sound-room size most used xs (sound-told size most used xs s))
 
 module _ {A : Type 0} {size : ℕ} {to : A → List ℕ} {from : List ℕ → A} {Fits : A → Type 0} (k : Kept A size to from Fits) where
   -- the records bs in n places, which hold qs

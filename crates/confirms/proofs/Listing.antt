@@ -2,7 +2,7 @@
 use mathlib.Core.Path.{_≡_, refl, sym, ap, ap₂, _∙_}
 use mathlib.Core.Bool.{Bool, true, false}
 use mathlib.Core.List.{List, [], _∷_}
-use Prim.Native.Nat.{ℕ, zero, suc, _+_, _-_, _/_, _^_, _≤_, _<_}
+use Prim.Native.Nat.{ℕ, suc, _+_, _-_, _/_, _^_, _≤_, _<_}
 use native.Mathlib.Nat.{le-trans}
 use native.Mathlib.Omega.{arith}
 use lib.ListN.{length, take, drop, length-drop}
@@ -14,11 +14,11 @@ use Rattle.rules.specs.Ids.{Id}
 use Rattle.rules.specs.Board.{base}
 use Rattle.rules.specs.Records.{records}
 use Rattle.rules.specs.Estimator.{Estimator, is-pending, confirm, confirm-all}
-use Rattle.rules.specs.Memory.{Lent, confirmed-capacity, pending-records, view, state-of, lay}
+use Rattle.rules.specs.Memory.{Lent, confirmed-capacity, pending-records, view, state-of}
 use Rattle.rules.specs.Calls.{Outcome, outcome, accepted, ids-of, pending-listings}
 use Rattle.rules.proofs.Memory.{Room}
 use Rattle.rules.proofs.Well.{Well, well-confirm}
-use Rattle.rules.proofs.Room.{Within, count-le, within-confirm}
+use Rattle.rules.proofs.Room.{count-le, within-confirm}
 use Rattle.ready.specs.Ready.{Ready}
 use Rattle.ready.proofs.Ready.{ready-after, seen-after, step-after, step-none, same-recent}
 use Rattle.ready.proofs.Facts.{used-recent}

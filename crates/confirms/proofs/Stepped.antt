@@ -1,8 +1,8 @@
 -- One listed id, over memory that is ready: what the code leaves of each table and of the counts is what the rules' step lays. Assumes nothing.
-use mathlib.Core.Path.{_≡_, refl, sym, ap, ap₂, subst, _∙_}
+use mathlib.Core.Path.{_≡_, sym, ap, ap₂, subst, _∙_}
 use mathlib.Core.Bool.{Bool, true, false, cond}
-use mathlib.Core.List.{List, [], _∷_, _++_}
-use mathlib.Core.Option.{Option, none, some}
+use mathlib.Core.List.{List, _++_}
+use mathlib.Core.Option.{none, some}
 use Prim.Native.Nat.{ℕ, _+_, _*_, _≤_, _<_}
 use native.Mathlib.Omega.{arith}
 use lib.Dec.{leb, ltb}
@@ -12,9 +12,9 @@ use Rattle.kinds.specs.declared.State.{State}
 use Rattle.kinds.specs.Answers.{done}
 use Rattle.rules.specs.Lists.{bit}
 use Rattle.rules.specs.Ids.{Id, same}
-use Rattle.rules.specs.Counts.{Counts, places-of-counts, gain}
+use Rattle.rules.specs.Counts.{places-of-counts, gain}
 use Rattle.rules.specs.Board.{base, Pending}
-use Rattle.rules.specs.Estimator.{Estimator, find, without, holds, become, wait, tx-left, record-confirmation, confirm}
+use Rattle.rules.specs.Estimator.{find, without, holds, become, wait, tx-left, record-confirmation, confirm}
 use Rattle.rules.specs.Memory.{Lent, lent, pending-records, confirmed-records, lay-pending, lay-confirmed, view, state-of, lay}
 use Rattle.rules.specs.Calls.{Outcome, outcome, accepted}
 use Rattle.rules.proofs.All.{All, none as all-none, more}

@@ -72,9 +72,10 @@ fn record_confirmation(
         Found::At(i) => {
             count(confirmed, resolved, table::pending_at(pending, used, i), h);
             table::remove(pending, 44, used, i);
+            let left = used - 1;
             State {
                 last: last,
-                pending: used - 1,
+                pending: left,
                 recent: note_height(recent, kept, id, h),
             }
         }

@@ -1,5 +1,6 @@
+-- `confirms::confirm_all` meets its contract. Assumes nothing.
 use mathlib.Core.Path.{_∙_}
-use Prim.Native.Nat.{_-_, _≤_}
+use Prim.Native.Nat.{_-_}
 use denote.Ref.{now}
 use native.Mathlib.Omega.{arith}
 use lib.ListN.{length}
@@ -7,9 +8,6 @@ use Rattle.rules.specs.Memory.{lent}
 use Rattle.confirms.proofs.Listing.{Going, going-none, going-more, going-all, room-for-one, listed-length}
 use Rattle.confirms.proofs.confirm_all.Statement.{statement}
 use Rattle.confirms.proofs.confirm_all.Tie as tie
-use Rattle.confirms.proofs.confirm_all.Reads as reads
-use Rattle.confirms.proofs.confirm_all.Lts as lts
-use Rattle.confirms.proofs.step.confirm.Reads as confirm-reads
 
 abbrev Inv-loop : tie.InvT-loop
 Inv-loop confirmed₀ resolved₀ pending₀ recent₀ ids h s₀ at₀ confirmed resolved pending recent s at =
@@ -39,9 +37,10 @@ part-confirm-end c = omega arith
 
 confirm-requires : tie.Need-confirm-requires Inv-loop μ-loop
 confirm-requires c κs =
-    let g = c .before .before .before .before .before .before .loop in
-    let left : 32 ≤ length (now (c .before .before .before .before .before .before .before .before .before .before .before .before .args .ids)) - g .at = c .before .before .before .before .before .loop-test .taken in
-    (g .inv .ready, (room-for-one _ _ _ _ (g .at) _ _ (g .inv) left, listed-length (now (c .before .before .before .before .before .before .before .before .before .before .before .before .args .ids)) (g .at) left))
+    let n = c .before .before .before .before .before in
+    let g = n .before .loop in
+    let ids = now (n .before .before .before .before .before .before .before .args .ids) in
+    (g .inv .ready, (room-for-one _ _ _ _ (g .at) _ _ (g .inv) (n .loop-test .taken), listed-length ids (g .at) (n .loop-test .taken)))
 
 loop-less : tie.Need-loop-less Inv-loop μ-loop
 loop-less c = omega arith
@@ -49,8 +48,9 @@ loop-less c = omega arith
 loop-again : tie.Need-loop-again Inv-loop μ-loop
 loop-again c =
     let k = c .before .before .before .before .before .before .before .before .confirm in
-    let g = c .before .before .before .before .before .before .before .before .before .before .before .before .before .before .before .loop in
-    going-more _ _ _ _ (g .at) _ _ (g .inv) _ _ (c .before .before .before .before .before .before .before .before .before .before .before .before .before .before .loop-test .taken) (omega (arith, c .before .before .before .before .before .before .before .before .before .before .before .before .before .before .before .before .before .before .before .before .before .good))
+    let n = c .before .before .before .before .before .before .before .before .before .before .before .before .before .before in
+    let g = n .before .loop in
+    going-more _ _ _ _ (g .at) _ _ (g .inv) _ _ (n .loop-test .taken) (omega (arith, n .before .before .before .before .before .before .before .good))
     (record {
       confirmed = k .kept .1 .0 ∙ g .inv .long .confirmed;
       resolved = k .kept .1 .1 .0 ∙ g .inv .long .resolved;

@@ -1,3 +1,4 @@
+-- `confirms::pending_listings` meets its contract. Assumes nothing.
 use mathlib.Core.Path.{refl, sym, _∙_}
 use mathlib.Core.Bool.{true, false}
 use Prim.Native.Nat.{_-_}
@@ -10,9 +11,6 @@ use Rattle.rules.specs.Memory.{pending-records}
 use Rattle.confirms.proofs.Listing.{Counting, counting-none, counting-more, counting-all, listed-length}
 use Rattle.confirms.proofs.pending_listings.Statement.{statement}
 use Rattle.confirms.proofs.pending_listings.Tie as tie
-use Rattle.confirms.proofs.pending_listings.Reads as reads
-use Rattle.confirms.proofs.pending_listings.Lts as lts
-use Rattle.confirms.proofs.tables.is_pending.Reads as is-pending-reads
 
 abbrev Inv-loop : tie.InvT-loop
 Inv-loop pending used ids n₀ at₀ n at = Counting (λ i. is-pending i (pending-records base used pending)) ids n at
@@ -39,7 +37,9 @@ part-is-pending-end : tie.Need-part-is-pending-end Inv-loop μ-loop
 part-is-pending-end c = omega arith
 
 is-pending-requires : tie.Need-is-pending-requires Inv-loop μ-loop
-is-pending-requires c κs = (c .before .before .before .before .before .pre, listed-length (now (c .before .before .before .before .before .args .ids)) (c .before .before .loop .at) (omega arith))
+is-pending-requires c κs =
+    let s = c .before .before .before .before .before in
+    (s .pre, listed-length (now (s .args .ids)) (c .before .before .loop .at) (omega arith))
 
 add-n : tie.Need-add-n Inv-loop μ-loop
 add-n c = omega arith
@@ -48,13 +48,17 @@ loop-less : tie.Need-loop-less Inv-loop μ-loop
 loop-less c = omega arith
 
 loop-again : tie.Need-loop-again Inv-loop μ-loop
-loop-again c = counting-more _ _ (c .before .before .before .before .loop .n) _ (c .before .before .before .before .loop .at) true (c .before .before .before .before .loop .inv) (omega arith) (sym (c .if1 .taken) ∙ c .before .is-pending .ensures) refl
+loop-again c =
+    let g = c .before .before .before .before .loop in
+    counting-more _ _ (g .n) _ (g .at) true (g .inv) (omega arith) (sym (c .if1 .taken) ∙ c .before .is-pending .ensures) refl
 
 loop-less-2 : tie.Need-loop-less-2 Inv-loop μ-loop
 loop-less-2 c = omega arith
 
 loop-again-2 : tie.Need-loop-again-2 Inv-loop μ-loop
-loop-again-2 c = counting-more _ _ (c .before .before .before .before .loop .n) _ (c .before .before .before .before .loop .at) false (c .before .before .before .before .loop .inv) (omega arith) (sym (c .if1 .left) ∙ c .before .is-pending .ensures) (omega arith)
+loop-again-2 c =
+    let g = c .before .before .before .before .loop in
+    counting-more _ _ (g .n) _ (g .at) false (g .inv) (omega arith) (sym (c .if1 .left) ∙ c .before .is-pending .ensures) (omega arith)
 
 returns : tie.Need-returns Inv-loop μ-loop
 returns c = counting-all _ _ _ (c .before .loop .at) (c .before .loop .inv) (omega arith)

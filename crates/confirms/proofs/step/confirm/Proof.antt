@@ -5,11 +5,6 @@ use Rattle.confirms.proofs.Stepped.{uncounted, not-uncounted}
 use borrow.Author.Needs.{needs}
 use Rattle.confirms.proofs.step.confirm.Statement.{statement}
 use Rattle.confirms.proofs.step.confirm.Tie as tie
-use Rattle.confirms.proofs.step.confirm.Reads as reads
-use Rattle.confirms.proofs.step.confirm.Lts as lts
-use Rattle.confirms.proofs.step.record_confirmation.Reads as record-confirmation-reads
-use Rattle.confirms.proofs.tables.forget.Reads as forget-reads
-use Rattle.confirms.proofs.tables.holds.Reads as holds-reads
 
 holds-requires : tie.Need-holds-requires
 holds-requires c κs = let s = c .before .before .before .before .before .before in (recent-sound _ _ (s .pre .0), s .pre .1 .1)

@@ -1,18 +1,11 @@
 -- `confirms::step::count` meets its contract. Assumes nothing.
-use mathlib.Core.Path.{_≡_, ap, _∙_}
-use mathlib.Core.Bool.{Bool}
+use mathlib.Core.Path.{ap, _∙_}
 use Prim.Native.Nat.{ℕ, _*_}
 use lib.Dec.{leb}
-use denote.Ref.{now}
 use Rattle.rules.proofs.Counting.{gain-agree}
 use borrow.Author.Needs.{needs}
 use Rattle.confirms.proofs.step.count.Statement.{statement}
 use Rattle.confirms.proofs.step.count.Tie as tie
-use Rattle.confirms.proofs.step.count.Reads as reads
-use Rattle.confirms.proofs.step.count.Lts as lts
-use Rattle.confirms.proofs.step.waited.Reads as waited-reads
-use Rattle.counts.proofs.count_confirmation.Reads as count-confirmation-reads
-use Rattle.counts.proofs.first_column.Reads as first-column-reads
 
 waited-requires : tie.Need-waited-requires
 waited-requires c κs = search needs

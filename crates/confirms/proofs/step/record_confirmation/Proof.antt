@@ -13,21 +13,13 @@ use Rattle.rules.specs.Memory.{pending-records}
 use Rattle.ready.proofs.Facts.{confirmed-places, resolved-places, pending-sound, recent-sound}
 use Rattle.table.specs.Search.{find-in}
 use Rattle.table.specs.declared.Found.the-variants.{At}
-use Rattle.table.proofs.Sound.{sound-told, sound-room}
-use Rattle.confirms.proofs.Edited.{are-bytes, searchable, at-used, there, found, lost, removed}
+use Rattle.confirms.proofs.Edited.{are-bytes, searchable, in-table, there, found, lost, removed}
 use Rattle.confirms.proofs.Stepped.{bucket-fits, room-for-it, unlisted, counted}
 use borrow.Author.Needs.{needs}
 use Rattle.confirms.proofs.step.record_confirmation.Statement.{statement}
 use Rattle.confirms.proofs.step.record_confirmation.Tie as tie
-use Rattle.confirms.proofs.step.record_confirmation.Reads as reads
-use Rattle.confirms.proofs.step.record_confirmation.Lts as lts
-use Rattle.confirms.proofs.step.count.Reads as count-reads
-use Rattle.confirms.proofs.tables.note_height.Reads as note-height-reads
-use Rattle.table.proofs.pending_at.Reads as pending-at-reads
-use Rattle.table.proofs.find.Reads as find-reads
-use Rattle.table.proofs.remove.Reads as remove-reads
 
--- where the record was found
+-- a record of the id was found: the function's start, and where the record stands
 abbrev start : tie.After-i → tie.Start
 start n = n .before .before .before .before .before .before .before .before .before
 
@@ -42,7 +34,7 @@ record-found : (n : tie.After-i) → let a = start n .args in find (now (a .id))
 record-found n = found _ _ _ _ (pending-sound _ _ (start n .pre .0)) (at n)
 
 placed : (n : tie.After-i) → let a = start n .args in (n .i .given .0 .0 < a .state .pending) × (a .state .pending * pending-size ≤ length (now (a .pending)))
-placed n = (at-used pending-size _ _ _ _ (at n), sound-room pending-size pending-most _ _ (sound-told _ _ _ _ (pending-sound _ _ (start n .pre .0))))
+placed n = in-table pending-size pending-most _ _ _ _ (pending-sound _ _ (start n .pre .0)) (at n)
 
 find-requires : tie.Need-find-requires
 find-requires c κs = let s = c .before .before .before .before .before .before in searchable pending-size pending-most _ _ (now (s .args .id)) (omega arith) (pending-sound _ _ (s .pre .0)) (s .pre .1 .1)
@@ -60,10 +52,10 @@ count-requires c κs =
     (omega (arith, c .pending-at .ensures .0, bucket-fits _ _ r 0 _ _ (record-found n)), confirmed-places _ _ r, resolved-places _ _ r)
 
 remove-requires : tie.Need-remove-requires
-remove-requires c κs = placed (c .before .before .before .before .before .before .before .before .before .before .before)
+remove-requires c κs = let p = placed (c .before .before .before .before .before .before .before .before .before .before .before) in (omega arith, p .1)
 
-sub-t26 : tie.Need-sub-t26
-sub-t26 c = omega (arith, placed (c .before .before .before .before .before .before .before .before .before .before .before .before .before .before) .0)
+sub-left : tie.Need-sub-left
+sub-left c = omega (arith, placed (c .before .before .before .before .before .before .before .before .before .before .before .before .before .before) .0)
 
 note-height-requires : tie.Need-note-height-requires
 note-height-requires c κs =
@@ -114,7 +106,7 @@ record-confirmation-spec =
     pending-at-requires
     count-requires
     remove-requires
-    sub-t26
+    sub-left
     note-height-requires
     enum-told
     same-length

@@ -1,17 +1,12 @@
 -- `confirms::tables::forget` meets its contract. Assumes nothing.
-use mathlib.Core.Path.{_≡_, sym, _∙_}
+use mathlib.Core.Path.{sym, _∙_}
 use native.Mathlib.Omega.{arith}
 use denote.Ref.{now}
 use Rattle.rules.specs.Board.{pending-size, pending-most}
-use Rattle.table.proofs.Sound.{sound-told, sound-room}
-use Rattle.confirms.proofs.Edited.{are-bytes, searchable, at-used, removed, unmoved}
+use Rattle.confirms.proofs.Edited.{are-bytes, searchable, in-table, removed, unmoved}
 use borrow.Author.Needs.{needs}
 use Rattle.confirms.proofs.tables.forget.Statement.{statement}
 use Rattle.confirms.proofs.tables.forget.Tie as tie
-use Rattle.confirms.proofs.tables.forget.Reads as reads
-use Rattle.confirms.proofs.tables.forget.Lts as lts
-use Rattle.table.proofs.find.Reads as find-reads
-use Rattle.table.proofs.remove.Reads as remove-reads
 
 find-requires : tie.Need-find-requires
 find-requires c κs = let s = c .before .before .before in searchable pending-size pending-most _ _ (now (s .args .id)) (omega arith) (s .pre .0) (s .pre .1)
@@ -22,13 +17,13 @@ enum-known-i c = search needs
 remove-requires : tie.Need-remove-requires
 remove-requires c κs =
     let s = c .before .before .before .before .before .before .before .before in
-    let f = sym (c .before .before .before .before .find .ensures) ∙ c .before .before .i .given .1 in
-    (at-used pending-size _ _ _ _ f, sound-room pending-size pending-most _ _ (sound-told _ _ _ _ (s .pre .0)))
+    let p = in-table pending-size pending-most _ _ _ _ (s .pre .0) (sym (c .before .before .before .before .find .ensures) ∙ c .before .before .i .given .1) in
+    (omega arith, p .1)
 
 sub-result : tie.Need-sub-result
 sub-result c =
-    let f = sym (c .before .before .before .before .before .before .before .find .ensures) ∙ c .before .before .before .before .before .i .given .1 in
-    omega (arith, at-used pending-size _ _ _ _ f)
+    let s = c .before .before .before .before .before .before .before .before .before .before .before in
+    omega (arith, in-table pending-size pending-most _ _ _ _ (s .pre .0) (sym (c .before .before .before .before .before .before .before .find .ensures) ∙ c .before .before .before .before .before .i .given .1))
 
 enum-told : tie.Need-enum-told
 enum-told c = search needs

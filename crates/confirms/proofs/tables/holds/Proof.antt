@@ -3,15 +3,10 @@ use mathlib.Core.Path.{sym, _∙_}
 use denote.Ref.{now}
 use native.Mathlib.Omega.{arith}
 use Rattle.rules.specs.Board.{confirmed-size, confirmed-most}
-use Rattle.table.proofs.Sound.{sound-told, sound-room}
-use Rattle.confirms.proofs.Edited.{searchable, at-used, held, not-held}
+use Rattle.confirms.proofs.Edited.{searchable, in-table, held, not-held}
 use borrow.Author.Needs.{needs}
 use Rattle.confirms.proofs.tables.holds.Statement.{statement}
 use Rattle.confirms.proofs.tables.holds.Tie as tie
-use Rattle.confirms.proofs.tables.holds.Reads as reads
-use Rattle.confirms.proofs.tables.holds.Lts as lts
-use Rattle.table.proofs.height_at.Reads as height-at-reads
-use Rattle.table.proofs.find.Reads as find-reads
 
 find-requires : tie.Need-find-requires
 find-requires c κs = let s = c .before .before in searchable confirmed-size confirmed-most _ _ (now (s .args .id)) (omega arith) (s .pre .0) (s .pre .1)
@@ -22,8 +17,7 @@ enum-known-i c = search needs
 height-at-requires : tie.Need-height-at-requires
 height-at-requires c κs =
     let s = c .before .before .before .before .before .before in
-    let f = sym (c .before .before .before .find .ensures) ∙ c .before .i .given .1 in
-    (at-used confirmed-size _ _ _ _ f, sound-room confirmed-size confirmed-most _ _ (sound-told _ _ _ _ (s .pre .0)))
+    in-table confirmed-size confirmed-most _ _ _ _ (s .pre .0) (sym (c .before .before .before .find .ensures) ∙ c .before .i .given .1)
 
 enum-told : tie.Need-enum-told
 enum-told c = search needs

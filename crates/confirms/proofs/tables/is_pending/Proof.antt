@@ -7,9 +7,6 @@ use Rattle.confirms.proofs.Edited.{searchable, there, missing}
 use borrow.Author.Needs.{needs}
 use Rattle.confirms.proofs.tables.is_pending.Statement.{statement}
 use Rattle.confirms.proofs.tables.is_pending.Tie as tie
-use Rattle.confirms.proofs.tables.is_pending.Reads as reads
-use Rattle.confirms.proofs.tables.is_pending.Lts as lts
-use Rattle.table.proofs.find.Reads as find-reads
 
 find-requires : tie.Need-find-requires
 find-requires c κs = let s = c .before .before in searchable pending-size pending-most _ _ (now (s .args .id)) (omega arith) (s .pre .0) (s .pre .1)

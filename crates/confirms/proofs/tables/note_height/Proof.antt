@@ -1,18 +1,12 @@
 -- `confirms::tables::note_height` meets its contract. Assumes nothing.
-use mathlib.Core.Path.{_≡_, sym, _∙_}
+use mathlib.Core.Path.{sym, _∙_}
 use native.Mathlib.Omega.{arith}
 use denote.Ref.{now}
 use Rattle.rules.specs.Board.{confirmed-size, confirmed-most}
-use Rattle.table.proofs.Sound.{sound-told, sound-room}
-use Rattle.confirms.proofs.Edited.{are-bytes, searchable, at-used, gap-used, noted-new, noted-again}
+use Rattle.confirms.proofs.Edited.{are-bytes, searchable, in-table, gap-used, noted-new, noted-again}
 use borrow.Author.Needs.{needs}
 use Rattle.confirms.proofs.tables.note_height.Statement.{statement}
 use Rattle.confirms.proofs.tables.note_height.Tie as tie
-use Rattle.confirms.proofs.tables.note_height.Reads as reads
-use Rattle.confirms.proofs.tables.note_height.Lts as lts
-use Rattle.table.proofs.insert_confirmed.Reads as insert-confirmed-reads
-use Rattle.table.proofs.find.Reads as find-reads
-use Rattle.table.proofs.put_field.Reads as put-field-reads
 
 find-requires : tie.Need-find-requires
 find-requires c κs = let s = c .before .before .before in searchable confirmed-size confirmed-most _ _ (now (s .args .id)) (omega arith) (s .pre .0) (s .pre .1 .1)
@@ -23,8 +17,8 @@ enum-known-i c = search needs
 put-field-requires : tie.Need-put-field-requires
 put-field-requires c κs =
     let s = c .before .before .before .before .before .before .before .before in
-    let f = sym (c .before .before .before .before .find .ensures) ∙ c .before .before .i .given .1 in
-    (at-used confirmed-size _ _ _ _ f, (omega arith, sound-room confirmed-size confirmed-most _ _ (sound-told _ _ _ _ (s .pre .0))))
+    let p = in-table confirmed-size confirmed-most _ _ _ _ (s .pre .0) (sym (c .before .before .before .before .find .ensures) ∙ c .before .before .i .given .1) in
+    (p .0, (omega arith, p .1))
 
 enum-known-i-2 : tie.Need-enum-known-i-2
 enum-known-i-2 c = search needs
