@@ -3,7 +3,7 @@
 use mathlib.Core.Path.{_≡_, refl, sym, ap, ap₂, _∙_}
 use mathlib.Core.Bool.{Bool, true, false, not, _&&_, cond, true≢false}
 use mathlib.Core.List.{List}
-use Prim.Native.Nat.{ℕ, _+_, _-_, _%_}
+use Prim.Native.Nat.{ℕ, _+_, _-_, _%_, _<_}
 use native.Mathlib.Omega.{arith}
 use lib.Dec.{ltb, eqb, ltb→lt, lt→ltb}
 use lib.ListN.{length}
@@ -30,6 +30,7 @@ use Rattle.meaning.proofs.Living.{and-true}
 use Rattle.meaning.proofs.Judging.{pending-length}
 use Rattle.meaning.proofs.Leading.{comes}
 use Rattle.meaning.proofs.Meaning.{meant}
+use Rattle.meaning.proofs.Estimates.{estimates}
 use Rattle.meaning.proofs.Sound.{run-promise}
 
 -- ---- the answer of a judged call
@@ -57,7 +58,7 @@ gap-is (At g) B =
     (λ t. lt→ltb (g .0 + 4096) (B .0) (omega (arith, ltb→lt widest-gap (B .0 - g .0) t)))
     (λ t. lt→ltb widest-gap (B .0 - g .0) (omega (arith, ltb→lt (g .0 + 4096) (B .0) t)))
 
-module _ (k : Board) (l : Log) (x : Held) (n : Meant k l x) (q : sound k (x .state) (x .memory) ≡ true) where
+module _ (k : Board) (pos : 0 < k .width) (l : Log) (x : Held) (n : Meant k l x) (q : sound k (x .state) (x .memory) ≡ true) where
   abbrev rs : List Pending
   rs = pending-records k (x .state .pending) (x .memory .pending)
 
@@ -116,15 +117,15 @@ module _ (k : Board) (l : Log) (x : Held) (n : Meant k l x) (q : sound k (x .sta
 
   answered : Answered k l x
   unfolding estimate-call sound
-  answered = record { answers-are = answers; estimates-are = estimates }
+  answered = record { answers-are = answers; estimates-are = given; estimates-made = estimates k pos l x n }
     where
       answers : (c : Call) → outcome-of k c x .answer ≡ foretold k l x c
       answers (enter i rate h) = enter-is i rate h
       answers (leave i) = leave-is i
       answers (connect ids B) = block-is ids B
 
-      estimates : (target : Blocks) → estimate-call k (x .state) (x .memory .confirmed) (x .memory .resolved) target ≡ rate-answer (estimate k (target .0) (x .memory .confirmed) (x .memory .resolved))
-      estimates target =
+      given : (target : Blocks) → estimate-call k (x .state) (x .memory .confirmed) (x .memory .resolved) target ≡ rate-answer (estimate k (target .0) (x .memory .confirmed) (x .memory .resolved))
+      given target =
           let c : sound-counts (x .memory .confirmed) ≡ true = and-left (sound-counts (x .memory .confirmed)) _ q in
           let r : sound-counts (x .memory .resolved) ≡ true = and-left (sound-counts (x .memory .resolved)) _ (and-right (sound-counts (x .memory .confirmed)) _ q) in
           rw (c, r)
@@ -132,4 +133,4 @@ module _ (k : Board) (l : Log) (x : Held) (n : Meant k l x) (q : sound k (x .sta
 pub answer-promise : (k : Board) → Lawful k → Factor (k .decay) → AnswerPromise k
 unfolding AnswerPromise RunPromise
 answer-promise k law d m e cs t r =
-    answered k (singly (calls k m cs .log)) (calls k m cs) (meant k law m (calls k m cs) (comes k law m e cs t) r) (run-promise k d law m e cs t .sound-is)
+    answered k (law .wide) (singly (calls k m cs .log)) (calls k m cs) (meant k law m (calls k m cs) (comes k law m e cs t) r) (run-promise k d law m e cs t .sound-is)

@@ -1,24 +1,27 @@
 -- What the calls of a run answer, from the log; what every run comes to; and the promise said again in other words. Assumes nothing.
 use mathlib.Core.Path.{_≡_}
-use Prim.Native.Nat.{ℕ, _+_, _*_, _%_, _≤_}
+use Prim.Native.Nat.{ℕ, zero, suc, _+_, _*_, _%_, _≤_}
 use mathlib.Core.Bool.{Bool, true, false, not, _&&_, cond}
-use mathlib.Core.List.{List}
+use mathlib.Core.List.{List, [], _∷_}
+use mathlib.Core.Option.{Option, none}
 use lib.Dec.{leb, ltb, eqb}
 use lib.ListN.{length}
+use lib.Ieee.{Float}
 use Rattle.kinds.specs.declared.Blocks.{Blocks}
 use Rattle.kinds.specs.declared.Last.{Last}
 use Rattle.kinds.specs.declared.Last.the-variants.{Nothing, At}
 use Rattle.kinds.specs.Answers.{Answer, done, already-pending, pending-full, absent, bad-list, gap-too-wide, confirmed-full}
 use Rattle.rules.specs.Lists.{any, count}
 use Rattle.rules.specs.Ids.{Id, same}
+use Rattle.rules.specs.Ladder.{buckets}
 use Rattle.rules.specs.Counts.{columns}
 use Rattle.rules.specs.Board.{Board}
 use Rattle.rules.specs.Estimator.{Estimator, fresh, tx-entered, tx-left, block-connected}
-use Rattle.rules.specs.Estimate.{estimate}
+use Rattle.rules.specs.Estimate.{column-of, sums-down-to, estimate}
 use Rattle.rules.specs.Memory.{Lent, pending-capacity, confirmed-capacity, pending-records, sound, state-of, lay}
 use Rattle.rules.specs.Calls.{start-call, ids-of, rate-answer, estimate-call}
 use Rattle.meaning.specs.Runs.{arrival, removal, block, Log, begin, _▸_, last-of, Rising, singly, Call, enter, leave, connect, AllTyped, Held, outcome-of, calls}
-use Rattle.meaning.specs.Fates.{Fate, undecided, withdrawn, counted, fate-of, Kind, of-kind, admissions, tally, pends}
+use Rattle.meaning.specs.Fates.{Fate, undecided, withdrawn, counted, fate-of, Kind, in-resolved, in-confirmed, of-kind, admissions, tally, count-of, pends}
 
 -- ---- answers
 
@@ -41,11 +44,28 @@ foretold k l x (connect ids h) =
     (cond (too-far (last-of l) (h .0)) gap-too-wide
     (cond (ltb (confirmed-capacity (x .memory .recent)) (x .state .recent + count (waiting k l) (ids-of ids))) confirmed-full done))
 
+-- ---- estimates
+
+-- the counts of column c that a log makes, in n buckets from b on
+unfoldable pub column-made : Kind → Board → Log → ℕ → ℕ → ℕ → List Float
+column-made which k l c b zero = []
+column-made which k l c b (suc n) = count-of which k l b c ∷ column-made which k l c (suc b) n
+
+-- document 01's estimate for a target, of those counts
+unfoldable pub estimate-made : Board → Log → ℕ → Option ℕ
+estimate-made k l target =
+    let c = column-of k target in
+    cond (eqb target 0) none (sums-down-to 0 (column-made in-confirmed k l c 0 buckets) (column-made in-resolved k l c 0 buckets) .rate)
+
+-- ---- the promise
+
 pub record Answered (k : Board) (l : Log) (x : Held) : Type 0 where
   pub answers-are : (c : Call) → outcome-of k c x .answer ≡ foretold k l x c
   -- an estimate is document 01's, of the stored counts
   pub estimates-are : (target : Blocks) → estimate-call k (x .state) (x .memory .confirmed) (x .memory .resolved) target
       ≡ rate-answer (estimate k (target .0) (x .memory .confirmed) (x .memory .resolved))
+  -- and so of the counts that the log makes
+  pub estimates-made : (target : ℕ) → estimate k target (x .memory .confirmed) (x .memory .resolved) ≡ estimate-made k l target
 
 unfoldable pub AnswerPromise : Board → Type 0
 AnswerPromise k = (m : Lent) → start-call k m .answer ≡ done → (cs : List Call) → AllTyped cs → Rising (calls k m cs .log) → Answered k (singly (calls k m cs .log)) (calls k m cs)
