@@ -18,20 +18,20 @@ use Rattle.rules.specs.Ids.{Id, same}
 use Rattle.rules.specs.Board.{Board, Pending, Lawful}
 use Rattle.rules.specs.Estimator.{is-pending, admit, block-connected}
 use Rattle.rules.specs.Estimate.{estimate}
-use Rattle.rules.specs.Memory.{pending-capacity, confirmed-capacity, pending-records, sound-counts, sound-pending, sound, view}
+use Rattle.rules.specs.Memory.{Lent, pending-capacity, confirmed-capacity, pending-records, sound-counts, sound-pending, sound, view}
 use Rattle.rules.specs.Calls.{Outcome, refused, accepted, accepted-pending, enter-call, leave-call, gap, widest-gap, ids-of, pending-listings, block-call, rate-answer, estimate-call}
 use Rattle.rules.proofs.Records.{and-left, and-right}
 use Rattle.floats.proofs.Count.{Factor}
-use Rattle.meaning.specs.Runs.{Log, last-of, singly, Call, enter, leave, connect, Held, outcome-of, calls}
+use Rattle.meaning.specs.Runs.{Log, last-of, Rising, singly, Call, enter, leave, connect, Held, outcome-of, calls}
 use Rattle.meaning.specs.Fates.{admissions, pends, Meant}
-use Rattle.meaning.specs.Answered.{waiting, too-far, foretold, Answered, AnswerPromise, RunPromise}
+use Rattle.meaning.specs.Answered.{waiting, too-far, foretold, Answered, AnswerPromise}
 use Rattle.meaning.proofs.Counting.{bool-ext, any-count, count-ext, count-length}
 use Rattle.meaning.proofs.Living.{and-true}
 use Rattle.meaning.proofs.Judging.{pending-length}
-use Rattle.meaning.proofs.Leading.{comes}
+use Rattle.meaning.proofs.Leading.{Comes, comes}
 use Rattle.meaning.proofs.Meaning.{meant}
 use Rattle.meaning.proofs.Estimates.{estimates}
-use Rattle.meaning.proofs.Sound.{run-promise}
+use Rattle.meaning.proofs.Sound.{follows}
 
 -- ---- the answer of a judged call
 
@@ -130,7 +130,9 @@ module _ (k : Board) (pos : 0 < k .width) (l : Log) (x : Held) (n : Meant k l x)
           let r : sound-counts (x .memory .resolved) ≡ true = and-left (sound-counts (x .memory .resolved)) _ (and-right (sound-counts (x .memory .confirmed)) _ q) in
           rw (c, r)
 
+pub answers-of : (k : Board) → Lawful k → Factor (k .decay) → (m : Lent) (x : Held) → Comes k m x → Rising (x .log) → Answered k (singly (x .log)) x
+answers-of k law d m x c r = answered k (law .wide) (singly (x .log)) x (meant k law m x c r) (follows k d law m x c .sound-is)
+
 pub answer-promise : (k : Board) → Lawful k → Factor (k .decay) → AnswerPromise k
-unfolding AnswerPromise RunPromise
-answer-promise k law d m e cs t r =
-    answered k (law .wide) (singly (calls k m cs .log)) (calls k m cs) (meant k law m (calls k m cs) (comes k law m e cs t) r) (run-promise k d law m e cs t .sound-is)
+unfolding AnswerPromise
+answer-promise k law d m e cs t r = answers-of k law d m (calls k m cs) (comes k law m e cs t) r

@@ -157,12 +157,15 @@ module _ (k : Board) (law : Lawful k) (m : Lent) (g : Log) (v : Live k m g) wher
 
 -- ---- runs
 
-all-leads : (k : Board) → Lawful k → (m : Lent) (g : Log) (cs : List Call) → AllTyped cs → Live k m g → Leads k m (after-all k cs (at k m g))
-unfolding after-all AllTyped
-all-leads k law m g [] t v = record { to = g; is = refl; live = v }
-all-leads k law m g (c ∷ cs) t v =
-    let q : Leads k m (after k c (at k m g)) = call-leads k law m g v c (t .0) in
-    subst (λ (y : Held). Leads k m (after-all k cs y)) (sym (q .is)) (all-leads k law m (q .to) cs (t .1) (q .live))
+-- what a run comes to
+pub record Comes (k : Board) (m : Lent) (x : Held) : Type 0 where
+  pub is : x ≡ at k m (x .log)
+  pub live : Live k m (x .log)
+
+led : {k : Board} {m : Lent} {x : Held} → Leads k m x → Comes k m x
+led {k} {m} l =
+    let q = ap (λ (y : Held). y .log) (l .is) in
+    record { is = l .is ∙ ap (at k m) (sym q); live = subst (Live k m) (sym q) (l .live) }
 
 start-done : (k : Board) (m : Lent) → start-call k m .answer ≡ done → start-call k m ≡ accepted k fresh m
 unfolding start-call
@@ -172,21 +175,25 @@ start-done k m e = go (enough (m .confirmed) && enough (m .resolved)) e
     go true e = refl
     go false e = let z : _≡_ {A = ℕ} 0 1 = sym (ap (λ (a : Answer). a .number) e) in absurd (omega arith)
 
-fresh-live : (k : Board) (m : Lent) → Live k m begin
-unfolding run fresh
-fresh-live k m = record { well = well-fresh; room = record { pending = zero-le; recent = zero-le }; admitted = tt }
+-- a fresh start that is answered 0, one call more, and more calls
 
--- what a run comes to
-pub record Comes (k : Board) (m : Lent) (x : Held) : Type 0 where
-  pub is : x ≡ at k m (x .log)
-  pub live : Live k m (x .log)
+pub comes-start : (k : Board) (m : Lent) → start-call k m .answer ≡ done → Comes k m (started k m)
+unfolding started run fresh
+comes-start k m e =
+    led (record {
+      to = begin;
+      is = ap (λ (o : Outcome Lent). record { state = o .state; memory = o .lent; log = begin }) (start-done k m e);
+      live = record { well = well-fresh; room = record { pending = zero-le; recent = zero-le }; admitted = tt };
+    })
+
+pub comes-after : (k : Board) → Lawful k → (m : Lent) (x : Held) → Comes k m x → (c : Call) → Typed c → Comes k m (after k c x)
+comes-after k law m x v c t = subst (λ (y : Held). Comes k m (after k c y)) (sym (v .is)) (led (call-leads k law m (x .log) (v .live) c t))
+
+comes-after-all : (k : Board) → Lawful k → (m : Lent) (x : Held) → Comes k m x → (cs : List Call) → AllTyped cs → Comes k m (after-all k cs x)
+unfolding after-all AllTyped
+comes-after-all k law m x v [] t = v
+comes-after-all k law m x v (c ∷ cs) t = comes-after-all k law m (after k c x) (comes-after k law m x v c (t .0)) cs (t .1)
 
 pub comes : (k : Board) → Lawful k → (m : Lent) → start-call k m .answer ≡ done → (cs : List Call) → AllTyped cs → Comes k m (calls k m cs)
-unfolding calls started run
-comes k law m e cs t = go (calls k m cs) whole
-  where
-    whole : Leads k m (calls k m cs)
-    whole = subst (λ (o : Outcome Lent). Leads k m (after-all k cs (record { state = o .state; memory = o .lent; log = begin }))) (sym (start-done k m e)) (all-leads k law m begin cs t (fresh-live k m))
-
-    go : (x : Held) → Leads k m x → Comes k m x
-    go x l = let q : x .log ≡ l .to = ap (λ (y : Held). y .log) (l .is) in record { is = l .is ∙ ap (at k m) (sym q); live = subst (Live k m) (sym q) (l .live) }
+unfolding calls
+comes k law m e cs t = comes-after-all k law m (started k m) (comes-start k m e) cs t

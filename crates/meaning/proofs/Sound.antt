@@ -3,13 +3,13 @@
 use mathlib.Core.Path.{ap, _∙_}
 use Rattle.rules.specs.Board.{Board, Lawful}
 use Rattle.rules.specs.Estimator.{tx-entered, tx-left}
-use Rattle.rules.specs.Memory.{sound}
+use Rattle.rules.specs.Memory.{Lent, sound}
 use Rattle.rules.proofs.Sound.{lay-sound}
 use Rattle.floats.proofs.Count.{Factor}
 use Rattle.floats.proofs.Steps.{all-sound}
 use Rattle.floats.proofs.Steady.{Steady, steady-fresh, steady-block}
 use Rattle.meaning.specs.Runs.{arrival, removal, block, Log, begin, _▸_, Held, calls}
-use Rattle.meaning.specs.Answered.{run, RunPromise}
+use Rattle.meaning.specs.Answered.{run, Follows, RunPromise}
 use Rattle.meaning.proofs.Leading.{Comes, comes}
 
 module _ (k : Board) (d : Factor (k .decay)) where
@@ -20,11 +20,8 @@ module _ (k : Board) (d : Factor (k .decay)) where
   steady (l ▸ removal i) = record { confirmed = steady l .confirmed; resolved = steady l .resolved }
   steady (l ▸ block ids B) = steady-block k d ids B (run k l) (steady l)
 
-  pub run-promise : Lawful k → RunPromise k
-  unfolding RunPromise
-  run-promise law m e cs t =
-      let x = calls k m cs in
-      let c : Comes k m x = comes k law m e cs t in
+  pub follows : Lawful k → (m : Lent) (x : Held) → Comes k m x → Follows k m x
+  follows law m x c =
       let s : Steady (run k (x .log)) = steady (x .log) in
       record {
         state-is = ap (λ (y : Held). y .state) (c .is);
@@ -32,3 +29,7 @@ module _ (k : Board) (d : Factor (k .decay)) where
         sound-is = ap (λ (y : Held). sound k (y .state) (y .memory)) (c .is)
             ∙ lay-sound k law (run k (x .log)) m (c .live .well) (record { confirmed = all-sound (s .confirmed); resolved = all-sound (s .resolved) }) (c .live .room);
       }
+
+  pub run-promise : Lawful k → RunPromise k
+  unfolding RunPromise
+  run-promise law m e cs t = follows law m (calls k m cs) (comes k law m e cs t)
