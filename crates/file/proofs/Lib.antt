@@ -1,0 +1,5 @@
+pub mod Same
+pub mod Header
+pub mod Listed
+pub mod Whole
+pub mod Judged

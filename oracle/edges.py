@@ -1,0 +1,375 @@
+"""Fixed scripts: every case of document 01's 'Two sides of each edge', its misreadings, and both sides of every refusal.
+
+A case is a title and a text in which `LINE -> ANSWER` gives the answer that the document gives, `-> any` stands where it gives none, and `-> same` where
+memory laid by hand must give the same sum as the `sum` before it. A line without an arrow prints nothing."""
+
+from files import COUNTS, RATES, TARGETS, adler, bits, file, head, name, pending_record, place, recent_record, rows, u32
+
+LEND = "lend 440 360 3550 3550"
+FRESH = f"{LEND}\nstart -> 0"
+FRESH_FILE = "42 52 53 45 46 45 45 53 01 00 00 00 00 8E 00 00 00 E8 03"
+TOP = 2**32 - 1
+
+
+def joined(lines):
+    return "\n".join(lines)
+
+
+def decayed(times):
+    count = 1.0
+    for _ in range(times):
+        count *= 0.998
+    return count
+
+
+def count(kind, bucket, target, value):
+    return f"count {kind} {place(bucket, target)} {bits(value):016x}"
+
+
+def all_targets(bucket, value, first=1):
+    return [(bucket, target, value) for target in range(first, TARGETS + 1)]
+
+
+def memory(last, pending=(), recent=(), confirmed=(), resolved=()):
+    """Memory laid by hand: records, and counts as bucket, target and value."""
+    lines = [LEND, f"state {last} {len(pending)} {len(recent)}"]
+    lines += [f"byte {table} 0 {b''.join(used).hex()}" for table, used in (("pending", pending), ("confirmed", recent)) if used]
+    lines += [count("confirmed", *where) for where in confirmed] + [count("resolved", *where) for where in resolved]
+    return joined(lines)
+
+
+def laid(*parts, **more):
+    return memory(*parts, **more) + "\nsum -> same"
+
+
+def rate_cases():
+    edges = {0: 0, 999: 0, 1_049: 0, 1_050: 1, 1_101: 1, 1_102: 2, 962_804: 140, 962_805: 141, 2**64 - 1: 141}
+    yield "rates", joined([LEND] + [f"bucket {rate} -> {bucket}" for rate, bucket in edges.items()])
+    around = {}
+    for bucket, rate in enumerate(RATES):
+        around.update({rate - 1: max(0, bucket - 1), rate: bucket, rate + 1: bucket})
+    yield "every rate and its neighbours", joined([LEND] + [f"bucket {rate} -> {bucket}" for rate, bucket in around.items()])
+
+
+def worked_cases():
+    yield "fresh", joined([FRESH] + [f"estimate {target} -> none" for target in (0, 1, 25, 26)])
+
+    yield "one id", f"""
+        {FRESH}
+        enter aa 5000 100 -> 0
+        block 101 aa -> 0
+        estimates -> {" ".join("-" * 25)}
+        sum -> any
+        {laid(101, recent=[recent_record("aa", 101)], confirmed=all_targets(33, 0.998), resolved=all_targets(33, 0.998))}"""
+
+    two = [recent_record("aa", 101), recent_record("bb", 101)]
+    yield "two ids", f"""
+        {FRESH}
+        enter aa 5000 100 -> 0
+        enter bb 5000 100 -> 0
+        block 101 aa bb -> 0
+        {joined(f"estimate {target} -> rate 1000" for target in range(1, 27))}
+        sum -> any
+        {laid(101, recent=two, confirmed=all_targets(33, 1.996), resolved=all_targets(33, 1.996))}"""
+
+    rates = " ".join(["1050"] + ["1000"] * 24)
+    yield "Quad", f"""
+        {FRESH}
+        enter aa 5000 100 -> 0
+        enter bb 5000 100 -> 0
+        enter cc 1000 100 -> 0
+        enter dd 1000 100 -> 0
+        block 101 aa bb -> 0
+        estimate 1 -> rate 1050
+        estimate 2 -> rate 1000
+        estimates -> {rates}
+        write 58125 -> any
+        sum -> any
+        {LEND}
+        again -> 0
+        sum -> same
+        estimates -> {rates}"""
+
+
+def expiry_cases():
+    yield "24 blocks, pending; the 25th, gone", f"""
+        {FRESH}
+        enter aa 1000 100 -> 0
+        {joined(f"block {height} -> 0" for height in range(101, 125))}
+        sum -> any
+        {laid(124, pending=[pending_record("aa", 0, 100, 24)], resolved=[(0, target, decayed(25 - target)) for target in range(1, 25)])}
+        block 125 -> 0
+        sum -> any
+        {laid(125, resolved=[(0, target, decayed(26 - target)) for target in range(1, 26)])}"""
+
+    yield "first block 500, unlisted", f"""
+        {FRESH}
+        enter aa 1000 100 -> 0
+        block 500 -> 0
+        sum -> any
+        {laid(500, resolved=all_targets(0, 0.998))}"""
+
+    counted = {"confirmed": all_targets(33, 1.0, first=3), "resolved": all_targets(33, 1.0, first=6)}
+    yield "block 103 below the last height 105", f"""
+        {memory(105, pending=[pending_record("aa", 33, 100, 5)])}
+        block 103 aa -> 0
+        sum -> any
+        {laid(105, recent=[recent_record("aa", 103)], **counted)}"""
+
+    yield "confirmed at exactly this height: goes uncounted", f"""
+        {memory(100, pending=[pending_record("aa", 0, 90, 9)], recent=[recent_record("aa", 100)])}
+        block 100 aa -> 0
+        sum -> any
+        {laid(100, recent=[recent_record("aa", 100)])}"""
+
+    yield "confirmed records go after 25 heights", f"""
+        {memory(125, recent=[recent_record("aa", 101)])}
+        block 126 -> 0
+        sum -> any
+        {laid(126, recent=[recent_record("aa", 101)])}
+        block 127 -> 0
+        sum -> any
+        {laid(127)}"""
+
+
+def gap_cases():
+    yield "gap 4,096 and 4,097", f"""
+        {FRESH}
+        block 100 -> 0
+        block 4197 -> 6
+        block 4196 -> 0
+        sum -> any
+        block 8293 -> 6"""
+
+    yield "a gap is single multiplications", f"""
+        {memory(100, resolved=[(0, 1, 1.0)])}
+        block 110 -> 0
+        sum -> any
+        {laid(110, resolved=[(0, 1, decayed(10))])}"""
+
+    yield "no last height: any first block", f"""
+        {FRESH}
+        block {TOP} -> 0
+        block {TOP} -> 0
+        block 0 -> 0
+        sum -> any"""
+
+
+def estimate_cases():
+    yield "a lower bucket may pass again", f"""
+        {memory(9, confirmed=[(100, 3, 1.0)], resolved=[(100, 3, 1.0), (50, 3, 9.0)])}
+        estimate 3 -> rate {RATES[51]}
+        {count("confirmed", 10, 3, 100.0)}
+        {count("resolved", 10, 3, 100.0)}
+        estimate 3 -> rate 1000"""
+
+    edges = [(0.85, 1.0, "rate 1000"), (0.8499999999999999, 1.0, "none"), (17.0, 20.0, "rate 1000"), (1.0, 0.9999999999999999, "none")]
+    for confirmed, resolved, answer in edges:
+        yield f"{confirmed} of {resolved}", f"""
+            {memory(9, confirmed=[(0, 25, confirmed)], resolved=[(0, 25, resolved)])}
+            estimate 25 -> {answer}"""
+
+    huge = 1.7976931348623157e308
+    yield "infinity over infinity fails", f"""
+        {memory(9, confirmed=[(9, 1, huge), (8, 1, huge)], resolved=[(9, 1, 1.0)])}
+        estimate 1 -> rate 1000
+        {count("resolved", 7, 1, huge)}
+        {count("resolved", 6, 1, huge)}
+        estimate 1 -> rate {RATES[7]}"""
+
+
+def file_cases():
+    fresh, magic = file(), b"BRSEFEES"
+    assert fresh.startswith(bytes.fromhex(FRESH_FILE))
+    yield "fresh file", f"""
+        {FRESH}
+        write 57960 -> 12 57961
+        write 57961 -> 0 57961 {adler(fresh)}
+        write 58061 -> 0 57961 {adler(fresh + bytes([0xAA] * 100))}
+        write 0 -> 12 57961"""
+
+    for title, contents, answer in [
+        ("no byte", b"", "10"),
+        ("7 bytes", magic[:7], "10"),
+        ("7 other bytes", bytes(7), "10"),
+        ("eight zero bytes", bytes(8), "8"),
+        ("magic alone", magic, "10"),
+        ("magic and 3 bytes", magic + bytes(3), "10"),
+        ("magic and version 2", magic + u32(2), "9 2"),
+        ("magic and version 0", magic + u32(0), "9 0"),
+        ("magic and the highest version", magic + u32(TOP), f"9 {TOP}"),
+        ("flag 2", fresh[:12] + b"\2" + fresh[13:], "10"),
+        ("flag 1 without a height", fresh[:12] + b"\1" + fresh[13:], "10"),
+        ("one byte extra", fresh + b"\0", "10"),
+        ("one byte less", fresh[:-1], "10"),
+        ("fresh", fresh, "0"),
+        ("height 0", file(last=0), "0"),
+        ("the highest height", file(last=TOP), "0"),
+    ]:
+        yield f"file: {title}", f"{LEND}\nread {contents.hex() or '-'} -> {answer}\nsum -> any"
+
+    outlived = [pending_record("aa", 141, TOP, 25)]
+    yield "resolved-through 25 is read, and goes at the next advance", f"""
+        {LEND}
+        read {file(last=7, pending=outlived).hex()} -> 0
+        sum -> any
+        {laid(7, pending=outlived)}
+        block 7 -> 0
+        sum -> same
+        block 8 -> 0
+        sum -> any
+        {laid(8)}"""
+
+
+def record_cases():
+    twice = [pending_record("bb", 1, 2, 3), pending_record("aa", 4, 5, 6), pending_record("bb", 7, 8, 9)]
+    heights = [recent_record("02", 5), recent_record("01", 4), recent_record("02", 3)]
+    yield "ids in any order, the last of a repeated one holds", f"""
+        {LEND}
+        read {file(pending=twice, recent=heights).hex()} -> 0
+        sum -> any
+        {laid("-", pending=twice[1:], recent=heights[1:])}"""
+
+    for title, contents, answer in [
+        ("bucket 142", file(pending=[pending_record("aa", 142, 1, 0)]), 10),
+        ("resolved-through 26", file(pending=[pending_record("aa", 0, 1, 26)]), 10),
+        ("three records for two pending places", file(pending=twice), 11),
+        ("three records for two confirmed places", file(recent=heights), 11),
+        ("two and two", file(pending=twice[1:], recent=heights[1:]), 0),
+        ("10,001 pending", head() + u32(142) + rows() + u32(10_001) + bytes(4), 10),
+        ("1,000,001 confirmed", head() + u32(142) + rows() + u32(0) + u32(1_000_001), 10),
+    ]:
+        yield f"records: {title}", f"lend 88 72 3550 3550\nread {contents.hex()} -> {answer}\nsum -> any"
+
+
+def count_cases():
+    for title, pattern, is_sound in [
+        ("-0.0", "8000000000000000", True),
+        ("the least below 0", "8000000000000001", False),
+        ("infinity", "7ff0000000000000", False),
+        ("not a number", "7ff8000000000001", False),
+        ("the highest", "7fefffffffffffff", True),
+    ]:
+        for at, kind in ((0, "confirmed"), (COUNTS - 1, "resolved")):
+            yield f"count {title} in a file, {kind}", f"""
+                {LEND}
+                read {file(**{kind: {at: int(pattern, 16)}}).hex()} -> {0 if is_sound else 10}
+                sum -> any
+                block 1 -> 0
+                sum -> any
+                estimates -> any"""
+            judged = "any" if is_sound else "1"
+            yield f"count {title} in memory, {kind}", f"""
+                {LEND}
+                count {kind} {at} {pattern}
+                sum -> any
+                estimate 1 -> {judged}
+                estimate 0 -> {judged}
+                block 1 -> {judged}
+                write 58000 -> {judged}
+                enter aa 1 1 -> 0
+                leave aa -> 0
+                sum -> any"""
+
+
+def capacity_cases():
+    yield "pending full", """
+        lend 88 0 3550 3550
+        enter aa 1 1 -> 0
+        enter bb 1 1 -> 0
+        enter cc 1 1 -> 3
+        enter aa 1 1 -> 2
+        leave cc -> 4
+        leave aa -> 0
+        enter cc 1 1 -> 0
+        sum -> any"""
+
+    yield "confirmed full, each listing counted", """
+        lend 88 36 3550 3550
+        enter aa 1 1 -> 0
+        block 2 aa aa -> 7
+        block 2 aa bb bb -> 0
+        enter aa 1 1 -> 0
+        block 2 aa -> 7
+        sum -> any
+        block 28 -> 0
+        block 28 aa -> 0"""
+
+    yield "order of refusals", """
+        lend 88 0 3550 3550
+        state 1 1 0
+        blockraw 9999 00 -> 5
+        block 9999 00 -> 6
+        block 9 00 -> 7
+        count confirmed 0 nan
+        blockraw 9999 00 -> 1
+        write 0 -> 1
+        estimate 1 -> 1"""
+
+    for lent in ("440 360 3549 3550", "440 360 3550 3549", "440 360 0 0"):
+        calls = ["start", "read -", "again", "block 1", "estimate 0", "estimates", "write 1400000"]
+        yield f"counts too short: {lent}", f"""
+            lend {lent}
+            {joined(f"{call} -> 1" for call in calls)}
+            enter aa 1 1 -> 0
+            leave aa -> 0
+            leave aa -> 4
+            bucket 5000 -> 33
+            sum -> any"""
+
+
+def large_cases():
+    full = file(pending=[pending_record(f"{at:04x}", at % 142, at, at % 25) for at in range(10_000)])
+    yield "10,000 pending", f"""
+        lend 440044 36 3550 3550
+        read {full.hex()} -> 0
+        sum -> any
+        enter ffff 1 1 -> 3
+        enter 0000 1 1 -> 2
+        leave 0007 -> 0
+        enter ffff 1 1 -> 0
+        enter fffe 1 1 -> 3
+        block 5000 0008 -> 0
+        sum -> any
+        write 600000 -> any
+        again -> 0
+        sum -> same"""
+
+    many = file(last=9, recent=[recent_record(f"{at:04x}", at) for at in range(20_002)])
+    yield "20,002 confirmed", f"""
+        lend 44 720100 3550 3550
+        read {many.hex()} -> 0
+        enter 0011 1 1 -> 0
+        block 40 0011 -> 7
+        block 40 -> 0
+        block 40 0011 -> 0
+        sum -> any"""
+
+    ids = b"".join(name(f"{at:04x}") for at in range(5_000)).hex()
+    yield "5,000 ids in one list", f"""
+        {FRESH}
+        enter 0102 1 1 -> 0
+        blockraw 2 {ids} -> 0
+        sum -> any
+        blockraw 3 {ids}00 -> 5"""
+
+
+def scripts():
+    """Each case's title, the bytes of its script, and for each printed line the answer, `any`, or the number of the line that it repeats."""
+    makers = rate_cases, worked_cases, expiry_cases, gap_cases, estimate_cases, file_cases, record_cases, count_cases, capacity_cases, large_cases
+    for maker in makers:
+        for title, text in maker():
+            yield title, *script(text)
+
+
+def script(text):
+    """The bytes of a script written with arrows, and its answers."""
+    lines, answers, last_sum = [], [], None
+    for line in text.strip().split("\n"):
+        line, _, answer = line.strip().partition(" -> ")
+        lines.append(f"{line}\n")
+        if line == "sum" and answer != "same":
+            last_sum = len(answers)
+        if answer:
+            answers.append(last_sum if answer == "same" else answer)
+    return "".join(lines).encode(), answers

@@ -1,0 +1,3 @@
+//! Stands in for `hashbrown`: the standard library's map, which is a hashbrown map with another hasher.
+
+pub use std::collections::HashMap;
