@@ -46,7 +46,7 @@ unfolding read-call taken-in has-room settled-tables settled lay
 old-is-read = ap (taken-in base dirty) (written-is-read version-1 version-1-lawful old writable)
 
 abbrev having : Held → Life
-having x = record { fresh = false; held = x }
+having x = record { is-fresh = false; held = x }
 
 -- a caller who lends dirty memory and has called nothing yet
 abbrev before : Life
