@@ -1,0 +1,62 @@
+-- `replay::asks::say_later` is safe and ends: 24 turns.
+-- Assumes nothing.
+use mathlib.Core.Path.{_≡_, refl}
+use Prim.Native.Nat.{_-_, _≤_}
+use native.Mathlib.Omega.{arith}
+use borrow.Author.Needs.{needs}
+use lib.ListN.{length}
+use Rattle.replay.proofs.asks.say_later.Statement.{statement}
+use Rattle.replay.proofs.asks.say_later.Tie as tie
+
+abbrev Inv-loop : tie.InvT-loop
+Inv-loop state confirmed resolved out₀ from at₀ t₀ out at t = (t ≤ 26) × (length out ≡ length out₀)
+
+abbrev μ-loop : tie.MeasureT-loop
+μ-loop state confirmed resolved out₀ from at₀ t₀ out at t = 26 - t
+
+loop-holds : tie.Need-loop-holds Inv-loop μ-loop
+loop-holds c = (omega arith, refl)
+
+put-byte-requires : tie.Need-put-byte-requires Inv-loop μ-loop
+put-byte-requires c κs = search needs
+
+estimate-requires : tie.Need-estimate-requires Inv-loop μ-loop
+estimate-requires c κs = search needs
+
+say-target-requires : tie.Need-say-target-requires Inv-loop μ-loop
+say-target-requires c κs = search needs
+
+add-t : tie.Need-add-t Inv-loop μ-loop
+add-t c = omega arith
+
+loop-less : tie.Need-loop-less Inv-loop μ-loop
+loop-less c = omega arith
+
+loop-again : tie.Need-loop-again Inv-loop μ-loop
+loop-again c = omega arith
+
+put-byte-requires-2 : tie.Need-put-byte-requires-2 Inv-loop μ-loop
+put-byte-requires-2 c κs = search needs
+
+same-length : tie.Need-same-length Inv-loop μ-loop
+same-length c = omega arith
+
+returns : tie.Need-returns Inv-loop μ-loop
+returns c = search needs
+
+pub say-later-spec : {M : Type 1} → statement M
+say-later-spec =
+    tie.close
+    (tie.spec
+    Inv-loop
+    μ-loop
+    loop-holds
+    put-byte-requires
+    estimate-requires
+    say-target-requires
+    add-t
+    loop-less
+    loop-again
+    put-byte-requires-2
+    same-length
+    returns)
