@@ -20,7 +20,7 @@ ghost use Rattle.format.specs.File.{version-1, history-of, history-length};
 ghost use Rattle.format.specs.Calls.{output, write-call};
 ghost use Rattle.rules.specs.Board.{base, pending-most, confirmed-most};
 
-// How long the file is.
+// How long the file is: the header, 57,936 bytes of buckets, and each table with its number of records in four bytes.
 fn history_len(last: Last, pending: usize, recent: usize) -> usize
     requires { ⌜ (pending ≤ pending-most) × (recent ≤ confirmed-most) ⌝ }
     ensures { λ r. ⌜ r ≡ history-length version-1 last pending recent ⌝ }
@@ -28,7 +28,7 @@ fn history_len(last: Last, pending: usize, recent: usize) -> usize
     header_len(last) + 57944 + 44 * pending + 36 * recent
 }
 
-// The file of sound memory is put first into out.
+// The file of sound memory is put first into out: header, buckets, pending records, confirmed records.
 fn encode(
     s: State,
     confirmed: &[f64],
