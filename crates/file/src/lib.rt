@@ -21,7 +21,7 @@ pub struct Checked {
     pub recent: usize,
 }
 
-// What comes after a header with this last height.
+// What comes after a header with this last height: 57,936 bytes of buckets, then the tables.
 fn check_rest(s: &[u8], last: Last) -> Checked
     requires { ⌜ begun (read-head version-1 (now s)) ≡ good last ⌝ }
     ensures { λ r. ⌜ file-says r (now (s .entry)) ≡ read-history version-1 (now (s .entry)) ⌝ }

@@ -38,6 +38,7 @@ fn refused(answer: ReadAnswer) -> Reading
 }
 
 // The counts and the n pending and m confirmed records of a file that was read are stored, the tables with room for `most` and `more` records.
+// Between the header and the records stand 57,936 bytes of buckets, and before each table's records their number in four bytes.
 fn store(
     bytes: &[u8],
     last: Last,

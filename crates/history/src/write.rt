@@ -1,15 +1,13 @@
 // Writing the history file from the lent memory.
 use codec::buckets::put_buckets;
 use codec::numbers::put_records;
-use counts::sound_counts;
 use file::header_len;
 use file::put_header;
 use kinds::Last;
 use kinds::State;
 use kinds::WriteAnswer;
 use kinds::Written;
-use passes::judge_confirmed;
-use passes::judge_pending;
+use memory::judge_memory;
 ghost use mathlib.Core.Path.{_≡_};
 ghost use mathlib.Core.Bool.{true};
 ghost use Prim.Native.Nat.{_≤_};
@@ -22,7 +20,7 @@ ghost use Rattle.format.specs.File.{version-1, history-of, history-length};
 ghost use Rattle.format.specs.Calls.{output, write-call};
 ghost use Rattle.rules.specs.Board.{base, pending-most, confirmed-most};
 
-// How long the file is.
+// How long the file is: the header, 57,936 bytes of buckets, and each table with its number of records in four bytes.
 fn history_len(last: Last, pending: usize, recent: usize) -> usize
     requires { ⌜ (pending ≤ pending-most) × (recent ≤ confirmed-most) ⌝ }
     ensures { λ r. ⌜ r ≡ history-length version-1 last pending recent ⌝ }
@@ -30,7 +28,7 @@ fn history_len(last: Last, pending: usize, recent: usize) -> usize
     header_len(last) + 57944 + 44 * pending + 36 * recent
 }
 
-// The file of sound memory is put first into out.
+// The file of sound memory is put first into out: header, buckets, pending records, confirmed records.
 fn encode(
     s: State,
     confirmed: &[f64],
@@ -86,24 +84,6 @@ fn write_sound(
     }
 }
 
-// Whether the lent memory is sound.
-fn memory_ok(s: State, confirmed: &[f64], resolved: &[f64], pending: &[u8], recent: &[u8]) -> bool
-    ensures { λ r. ⌜ r ≡ sound base s (lent (now (confirmed .entry)) (now (resolved .entry)) (now (pending .entry)) (now (recent .entry))) ⌝ }
-{
-    let used = s.pending;
-    let kept = s.recent;
-    if !sound_counts(confirmed) {
-        return false;
-    }
-    if !sound_counts(resolved) {
-        return false;
-    }
-    if !judge_pending(pending, used) {
-        return false;
-    }
-    judge_confirmed(recent, kept)
-}
-
 // Writes the history file.
 pub fn to_history_bytes(
     s: State,
@@ -117,7 +97,7 @@ pub fn to_history_bytes(
         outcome (write-answer (r .answer)) (r .state) (output (r .len) (now (out .exit)))
         ≡ write-call version-1 base s (lent (now (confirmed .entry)) (now (resolved .entry)) (now (pending .entry)) (now (recent .entry))) (now (out .entry)) ⌝ }
 {
-    if !memory_ok(s, confirmed, resolved, pending, recent) {
+    if !judge_memory(s, confirmed, resolved, pending, recent) {
         return Written {
             answer: WriteAnswer::Damaged,
             state: s,
