@@ -1,9 +1,9 @@
 -- Laws of numbers in digits, as a loop from the first digit goes: what is left, read after what was read, says the whole number.
 -- Assumes nothing.
-use mathlib.Core.Path.{_≡_, refl, sym, ap, _∙_}
-use mathlib.Core.Bool.{Bool, true, false, _&&_, cond}
+use mathlib.Core.Path.{_≡_, refl}
+use mathlib.Core.Bool.{Bool, true, false, _&&_}
 use mathlib.Core.List.{List, [], _∷_}
-use Prim.Native.Nat.{ℕ, suc, _+_, _*_, _-_, _/_, _≤_, _<_}
+use Prim.Native.Nat.{ℕ, _+_, _*_, _-_, _/_, _≤_, _<_}
 use native.Mathlib.Nat.{suc-ne-zero, le-div-iff-mul-le, div-lt-iff-lt-mul, mul-le-mul-left}
 use native.Mathlib.Numerals.{add-one}
 use native.Mathlib.Omega.{arith}
@@ -11,7 +11,7 @@ use borrow.Author.Tests.{le-leb, lt-leb, lt-ltb, le-ltb}
 use lib.ListN.{length, drop, getD, drop-of-length-le}
 use lib.Seq.{drop-cons}
 use Rattle.rules.specs.Lists.{every}
-use Rattle.script.specs.Digits.{digit, in-base, value-after, number-after, number-of}
+use Rattle.script.specs.Digits.{digit, value-after, number-after, number-of}
 use Rattle.script.specs.declared.numbers.Number.{Number}
 
 -- values only grow
@@ -23,7 +23,7 @@ value-grows base n (x ∷ xs) h =
     let r = value-grows base (n * base + digit x) xs h in
     omega arith
 
-and-false : (a : Bool) → a && false ≡ false
+pub and-false : (a : Bool) → a && false ≡ false
 and-false true = refl
 and-false false = refl
 

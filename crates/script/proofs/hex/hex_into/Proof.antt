@@ -1,34 +1,40 @@
+-- `script::hex::hex_into` meets its contract.
+-- Assumes nothing.
+use mathlib.Core.Path.{sym, ap, _∙_}
+use Prim.Native.Nat.{_/_}
+use native.Mathlib.Omega.{arith}
 use borrow.Author.Needs.{needs}
+use denote.Ref.{now}
+use lib.ListN.{length}
+use Rattle.script.specs.Hex.{filled}
+use Rattle.script.specs.declared.hex.Decoded.{Decoded}
+use Rattle.script.proofs.Hexes.{into-short, into-bad, into-yes}
 use Rattle.script.proofs.hex.hex_into.Statement.{statement}
 use Rattle.script.proofs.hex.hex_into.Tie as tie
-use Rattle.script.proofs.hex.hex_into.Reads as reads
-use Rattle.script.proofs.hex.hex_into.Lts as lts
-use Rattle.script.proofs.hex.is_hex.Reads as is-hex-reads
-use Rattle.script.proofs.hex.unhex.Reads as unhex-reads
 
--- src/hex.rt:56:9
 returns : tie.Need-returns
-returns c = ?
+returns c = let a = c .before .before .before .args in sym (into-short (now (a .word)) (now (a .out)) (c .if1 .taken))
 
--- src/hex.rt:58:8
 is-hex-requires : tie.Need-is-hex-requires
 is-hex-requires c κs = search needs
 
--- src/hex.rt:59:9
 unhex-requires : tie.Need-unhex-requires
-unhex-requires c κs = ?
+unhex-requires c κs = (sym (c .before .before .is-hex .ensures) ∙ c .before .if2 .taken, omega arith)
 
--- src/hex.rt:60:9
 same-length : tie.Need-same-length
 same-length c = search needs
 
--- src/hex.rt:60:9
 returns-2 : tie.Need-returns-2
-returns-2 c = ?
+returns-2 c =
+    let a = c .before .before .before .before .before .before .before .before .before .args in
+    let b = c .before .before .before .before in
+    ap (filled (Decoded.Bytes (length (now (a .word)) / 2))) (c .before .before .unhex .ensures)
+    ∙ sym (into-yes (now (a .word)) (now (a .out)) (omega arith) (sym (b .before .is-hex .ensures) ∙ b .if2 .taken))
 
--- src/hex.rt:51:1
 returns-3 : tie.Need-returns-3
-returns-3 c = ?
+returns-3 c =
+    let a = c .before .before .before .before .before .args in
+    sym (into-bad (now (a .word)) (now (a .out)) (sym (c .before .is-hex .ensures) ∙ c .if2 .left))
 
 pub hex-into-spec : {M : Type 1} → statement M
 hex-into-spec =

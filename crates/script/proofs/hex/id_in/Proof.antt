@@ -1,37 +1,40 @@
+-- `script::hex::id_in` meets its contract.
+-- Assumes nothing.
+use mathlib.Core.Path.{sym, ap, _∙_}
 use borrow.Author.Needs.{needs}
+use denote.Ref.{now}
+use Rattle.script.specs.Hex.{filled}
+use Rattle.script.specs.declared.hex.Decoded.{Decoded}
+use Rattle.script.proofs.Hexes.{no-word, found, refused}
 use Rattle.script.proofs.hex.id_in.Statement.{statement}
 use Rattle.script.proofs.hex.id_in.Tie as tie
-use Rattle.script.proofs.hex.id_in.Reads as reads
-use Rattle.script.proofs.hex.id_in.Lts as lts
-use Rattle.script.proofs.hex.hex_into.Reads as hex-into-reads
 
--- src/hex.rt:77:9
 returns : tie.Need-returns
-returns c = ?
+returns c = no-word (now (c .before .before .args .word)) (c .if1 .taken)
 
--- src/hex.rt:79:30
 slice-aggregate-hex-into : tie.Need-slice-aggregate-hex-into
 slice-aggregate-hex-into c = search needs
 
--- src/hex.rt:79:9
 hex-into-requires : tie.Need-hex-into-requires
 hex-into-requires c κs = search needs
 
--- src/hex.rt:81:45
 enum-told : tie.Need-enum-told
 enum-told c = search needs
 
--- src/hex.rt:82:41
 enum-told-2 : tie.Need-enum-told-2
 enum-told-2 c = search needs
 
--- src/hex.rt:72:1
 returns-2 : tie.Need-returns-2
-returns-2 c = ?
+returns-2 c =
+    let w = now (c .before .before .before .before .before .before .before .args .word) in
+    let h = c .before .before .before .hex-into in
+    found w (c .before .before .before .before .before .if1 .left) _ (h .last .1 .0) (ap (λ (r : Decoded). filled r (h .last .1 .0)) (sym (c .enum-told .given .1)) ∙ h .ensures)
 
--- src/hex.rt:72:1
 returns-3 : tie.Need-returns-3
-returns-3 c = ?
+returns-3 c =
+    let w = now (c .before .before .before .before .before .before .before .args .word) in
+    let h = c .before .before .before .hex-into in
+    refused w (c .before .before .before .before .before .if1 .left) (h .last .1 .0) (ap (λ (r : Decoded). filled r (h .last .1 .0)) (sym (c .enum-told2 .given .1)) ∙ h .ensures)
 
 pub id-in-spec : {M : Type 1} → statement M
 id-in-spec =

@@ -1,22 +1,19 @@
 -- `script::hex::unhex` meets its contract. The invariant: the first i bytes are those that the pairs say, and the others are as they were.
 -- Assumes nothing.
 use mathlib.Core.Path.{_≡_, refl, sym, ap, _∙_}
-use mathlib.Core.List.{List, _++_}
+use mathlib.Core.List.{List}
 use Prim.Native.Nat.{ℕ, _+_, _*_, _-_, _/_, _≤_, _<_}
 use native.Mathlib.Omega.{arith}
 use borrow.Author.Needs.{needs}
 use denote.Ref.{now}
-use lib.ListN.{length, getD, drop, set, length-set}
+use lib.ListN.{length, getD, set, length-set}
 use lib.Seq.{take-all}
-use Rattle.seqs.proofs.Swept.{swept, swept-more, length-swept}
+use Rattle.seqs.proofs.Swept.{swept, swept-more}
 use Rattle.script.specs.Digits.{digit}
 use Rattle.script.specs.Hex.{hex-bytes}
 use Rattle.script.proofs.Hexes.{length-hex, hex-at, hex-digit}
 use Rattle.script.proofs.hex.unhex.Statement.{statement}
 use Rattle.script.proofs.hex.unhex.Tie as tie
-use Rattle.script.proofs.hex.unhex.Reads as reads
-use Rattle.script.proofs.hex.unhex.Lts as lts
-use Rattle.script.proofs.numbers.digit.Reads as digit-reads
 
 abbrev Inv-loop : tie.InvT-loop
 Inv-loop word out₀ n i₀ out i = (i ≤ n) × ((n ≡ length word / 2) × ((length out ≡ length out₀) × (out ≡ swept out₀ (hex-bytes word) i)))
@@ -33,59 +30,45 @@ digits c =
     let b = hex-digit w (2 * l .i + 1) (s .pre .0) (omega arith) in
     (omega arith, omega arith)
 
--- src/hex.rt:36:5
 loop-holds : tie.Need-loop-holds Inv-loop μ-loop
 loop-holds c = (omega arith, (refl, (refl, refl)))
 
--- src/hex.rt:37:31
 mul-digit : tie.Need-mul-digit Inv-loop μ-loop
 mul-digit c = omega arith
 
--- src/hex.rt:37:26
 shared-slice-read-digit : tie.Need-shared-slice-read-digit Inv-loop μ-loop
 shared-slice-read-digit c = omega arith
 
--- src/hex.rt:37:13
 digit-requires : tie.Need-digit-requires Inv-loop μ-loop
 digit-requires c κs = search needs
 
--- src/hex.rt:38:30
 mul-digit-2 : tie.Need-mul-digit-2 Inv-loop μ-loop
 mul-digit-2 c = omega arith
 
--- src/hex.rt:38:30
 add-digit : tie.Need-add-digit Inv-loop μ-loop
 add-digit c = omega arith
 
--- src/hex.rt:38:25
 shared-slice-read-digit-2 : tie.Need-shared-slice-read-digit-2 Inv-loop μ-loop
 shared-slice-read-digit-2 c = omega arith
 
--- src/hex.rt:38:13
 digit-requires-2 : tie.Need-digit-requires-2 Inv-loop μ-loop
 digit-requires-2 c κs = search needs
 
--- src/hex.rt:39:18
 mul-out : tie.Need-mul-out Inv-loop μ-loop
 mul-out c = let p = digits c in omega (arith, p .0)
 
--- src/hex.rt:39:18
 add-out : tie.Need-add-out Inv-loop μ-loop
 add-out c = let p = digits c in omega (arith, p .0, p .1)
 
--- src/hex.rt:39:9
 slice-write-out : tie.Need-slice-write-out Inv-loop μ-loop
 slice-write-out c = omega arith
 
--- src/hex.rt:40:9
 add-i : tie.Need-add-i Inv-loop μ-loop
 add-i c = omega arith
 
--- src/hex.rt:36:5
 loop-less : tie.Need-loop-less Inv-loop μ-loop
 loop-less c = omega arith
 
--- src/hex.rt:36:5
 loop-again : tie.Need-loop-again Inv-loop μ-loop
 loop-again c =
     let a = c .before .before .before .before .before .before .before .before .args in
@@ -93,18 +76,21 @@ loop-again c =
     let w = now (a .word) in
     let v : c .before .before .digit .result * 16 + c .digit2 .result ≡ getD (hex-bytes w) (l .i) 0 =
     rw (c .before .before .digit .ensures .0, c .digit2 .ensures .0) (sym (hex-at w (l .i) (omega arith))) in
-    let n = length-hex w in
-    (omega arith, (refl, (
-      length-set (l .out) (l .i) _ ∙ l .inv .1 .1 .0,
-      ap (set (l .out) (l .i)) v ∙ ap (λ (o : List ℕ). set o (l .i) (getD (hex-bytes w) (l .i) 0)) (l .inv .1 .1 .1)
-      ∙ swept-more (now (a .out)) (hex-bytes w) (l .i) 0 (omega arith) (omega arith),
-    )))
+    let n = length-hex w in (
+      omega arith,
+      (
+        refl,
+        (
+          length-set (l .out) (l .i) _ ∙ l .inv .1 .1 .0,
+          ap (set (l .out) (l .i)) v ∙ ap (λ (o : List ℕ). set o (l .i) (getD (hex-bytes w) (l .i) 0)) (l .inv .1 .1 .1)
+              ∙ swept-more (now (a .out)) (hex-bytes w) (l .i) 0 (omega arith) (omega arith),
+        ),
+      ),
+    )
 
--- src/hex.rt:30:1
 same-length : tie.Need-same-length Inv-loop μ-loop
 same-length c = c .before .loop .inv .1 .1 .0
 
--- src/hex.rt:30:1
 returns : tie.Need-returns Inv-loop μ-loop
 returns c =
     let a = c .before .before .before .before .args in

@@ -1,40 +1,31 @@
 -- `script::numbers::digit` meets its contract.
 -- Assumes nothing.
-use mathlib.Core.Path.{_≡_, refl, sym}
 use native.Mathlib.Omega.{arith}
 use borrow.Author.Needs.{needs}
 use borrow.Author.Tests.{lt-ltb, le-ltb, le-leb, lt-leb}
 use Rattle.script.specs.Digits.{digit}
 use Rattle.script.proofs.numbers.digit.Statement.{statement}
 use Rattle.script.proofs.numbers.digit.Tie as tie
-use Rattle.script.proofs.numbers.digit.Reads as reads
-use Rattle.script.proofs.numbers.digit.Lts as lts
 
--- src/numbers.rt:16:9
 returns : tie.Need-returns
 unfolding digit
 returns c = (simp (lt-ltb _ _ (c .if1 .taken)), omega arith)
 
--- src/numbers.rt:19:9
 returns-2 : tie.Need-returns-2
 unfolding digit
 returns-2 c = (simp (le-ltb _ _ (c .before .if1 .left), le-leb _ _ (c .if2 .taken)), omega arith)
 
--- src/numbers.rt:22:9
 returns-3 : tie.Need-returns-3
 unfolding digit
 returns-3 c = (simp (le-ltb _ _ (c .before .before .if1 .left), lt-leb _ _ (c .before .if2 .left), lt-ltb _ _ (c .if3 .taken)), omega arith)
 
--- src/numbers.rt:25:16
 sub-result : tie.Need-sub-result
 sub-result c = search needs
 
--- src/numbers.rt:25:9
 returns-4 : tie.Need-returns-4
 unfolding digit
 returns-4 c = (simp (le-ltb _ _ (c .before .before .before .if1 .left), lt-leb _ _ (c .before .before .if2 .left), le-ltb _ _ (c .before .if3 .left), le-leb _ _ (c .if4 .taken)), omega arith)
 
--- src/numbers.rt:12:1
 returns-5 : tie.Need-returns-5
 unfolding digit
 returns-5 c = (simp (le-ltb _ _ (c .before .before .before .if1 .left), lt-leb _ _ (c .before .before .if2 .left), le-ltb _ _ (c .before .if3 .left), lt-leb _ _ (c .if4 .left)), omega arith)

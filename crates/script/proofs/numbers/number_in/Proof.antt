@@ -1,6 +1,6 @@
 -- `script::numbers::number_in` meets its contract. The invariant: what is left, read after the number so far, says the whole number.
 -- Assumes nothing.
-use mathlib.Core.Path.{_≡_, refl, sym, ap, _∙_}
+use mathlib.Core.Path.{_≡_, sym, ap, _∙_}
 use Prim.Native.Nat.{ℕ, _+_, _*_, _-_, _≤_, _<_}
 use native.Mathlib.Omega.{arith}
 use borrow.Author.Needs.{needs}
@@ -10,10 +10,6 @@ use Rattle.script.specs.Digits.{digit, number-of}
 use Rattle.script.proofs.Reading.{left, empty, started, more, not-digit, over, ended, within, beyond}
 use Rattle.script.proofs.numbers.number_in.Statement.{statement}
 use Rattle.script.proofs.numbers.number_in.Tie as tie
-use Rattle.script.proofs.numbers.number_in.Reads as reads
-use Rattle.script.proofs.numbers.number_in.Lts as lts
-use Rattle.script.proofs.numbers.digit.Reads as digit-reads
-use Rattle.script.proofs.numbers.wide.Reads as wide-reads
 
 abbrev Inv-loop : tie.InvT-loop
 Inv-loop word base most n₀ i₀ n i = (i ≤ length word) × ((n ≤ most) × (number-of base most word ≡ left base most word n i))
@@ -47,27 +43,21 @@ fits c =
     let a = b .before .before .before .before .before .before .before .args in
     within (a .base) (a .most) (b .before .before .before .before .loop .n) (b .wide .result) (omega arith) (omega arith) (c .if4 .left)
 
--- src/numbers.rt:42:9
 returns : tie.Need-returns Inv-loop μ-loop
 returns c = let a = c .before .before .args in sym (empty (a .base) (a .most) (now (a .word)) (c .if1 .taken))
 
--- src/numbers.rt:46:5
 loop-holds : tie.Need-loop-holds Inv-loop μ-loop
 loop-holds c = let a = c .before .before .args in (omega arith, (omega arith, started (a .base) (a .most) (now (a .word)) (c .if1 .left)))
 
--- src/numbers.rt:47:28
 shared-slice-read-digit : tie.Need-shared-slice-read-digit Inv-loop μ-loop
 shared-slice-read-digit c = omega arith
 
--- src/numbers.rt:47:22
 digit-requires : tie.Need-digit-requires Inv-loop μ-loop
 digit-requires c κs = search needs
 
--- src/numbers.rt:47:13
 wide-requires : tie.Need-wide-requires Inv-loop μ-loop
 wide-requires c κs = search needs
 
--- src/numbers.rt:49:13
 returns-2 : tie.Need-returns-2 Inv-loop μ-loop
 returns-2 c =
     let b = c .before in
@@ -76,7 +66,6 @@ returns-2 c =
     let e = value b in
     sym (l .inv .1 .1 ∙ not-digit (a .base) (a .most) (now (a .word)) (l .n) (l .i) (omega arith) (omega arith))
 
--- src/numbers.rt:52:13
 returns-3 : tie.Need-returns-3 Inv-loop μ-loop
 returns-3 c =
     let b = c .before .before in
@@ -85,11 +74,9 @@ returns-3 c =
     let e = value b in
     sym (next b (c .before .if2 .left) ∙ over (a .base) (a .most) (now (a .word)) _ (l .i + 1) (omega arith) (omega arith))
 
--- src/numbers.rt:54:12
 div-if4 : tie.Need-div-if4 Inv-loop μ-loop
 div-if4 c = omega arith
 
--- src/numbers.rt:55:13
 returns-4 : tie.Need-returns-4 Inv-loop μ-loop
 returns-4 c =
     let b = c .before .before .before in
@@ -98,27 +85,21 @@ returns-4 c =
     let m = beyond (a .base) (a .most) (l .n) (b .wide .result) (omega arith) (omega arith) (c .if4 .taken) in
     sym (next b (c .before .before .if2 .left) ∙ over (a .base) (a .most) (now (a .word)) _ (l .i + 1) (omega arith) m)
 
--- src/numbers.rt:57:13
 mul-n : tie.Need-mul-n Inv-loop μ-loop
 mul-n c = let m = fits c in omega arith
 
--- src/numbers.rt:57:13
 add-n : tie.Need-add-n Inv-loop μ-loop
 add-n c = let m = fits c in omega arith
 
--- src/numbers.rt:58:9
 add-i : tie.Need-add-i Inv-loop μ-loop
 add-i c = omega arith
 
--- src/numbers.rt:46:5
 loop-less : tie.Need-loop-less Inv-loop μ-loop
 loop-less c = omega arith
 
--- src/numbers.rt:46:5
 loop-again : tie.Need-loop-again Inv-loop μ-loop
 loop-again c = (omega arith, (fits c, next (c .before .before .before) (c .before .before .if2 .left)))
 
--- src/numbers.rt:37:1
 returns-5 : tie.Need-returns-5 Inv-loop μ-loop
 returns-5 c =
     let a = c .before .before .before .before .args in

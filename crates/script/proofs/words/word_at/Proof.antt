@@ -1,32 +1,26 @@
 -- `script::words::word_at` meets its contract.
 -- Assumes nothing.
-use mathlib.Core.Path.{_≡_, refl, sym, ap, _∙_}
+use mathlib.Core.Path.{_≡_, ap, _∙_}
 use Prim.Native.Nat.{ℕ, _+_}
 use native.Mathlib.Omega.{arith}
 use borrow.Author.Needs.{needs}
 use borrow.Author.Tests.{lt-ltb, le-ltb}
 use denote.Ref.{now}
 use mathlib.Core.List.{List}
-use lib.ListN.{length, drop}
+use lib.ListN.{drop}
 use lib.Seq.{take-length}
 use Rattle.bytes.specs.Bytes.{slice, indexOf}
 use Rattle.script.specs.Words.{word-from}
 use Rattle.script.proofs.words.word_at.Statement.{statement}
 use Rattle.script.proofs.words.word_at.Tie as tie
-use Rattle.script.proofs.words.word_at.Reads as reads
-use Rattle.script.proofs.words.word_at.Lts as lts
-use Rattle.bytes.proofs.scan.find.Reads as find-reads
 
--- src/words.rt:20:9
 returns : tie.Need-returns
 unfolding word-from slice
 returns c = (simp (lt-ltb _ _ (c .if1 .taken)), omega arith)
 
--- src/words.rt:22:9
 find-requires : tie.Need-find-requires
 find-requires c κs = search needs
 
--- src/words.rt:14:1
 returns-2 : tie.Need-returns-2
 unfolding word-from slice
 returns-2 c =
