@@ -1,7 +1,7 @@
 -- A block that is not refused, step after step: the skipped heights, the listed ids, and the block's own height. Memory is ready for each step, since no
 -- step needs more room than ConfirmedFull asks for. Assumes nothing.
 use mathlib.Core.Path.{_≡_, refl, sym, ap, _∙_}
-use mathlib.Core.Bool.{Bool, true, false}
+use mathlib.Core.Bool.{true, false}
 use mathlib.Core.List.{List}
 use Prim.Native.Nat.{ℕ, _+_, _^_, _≤_, _<_}
 use native.Mathlib.Omega.{arith}
@@ -12,15 +12,15 @@ use Rattle.rules.specs.Lists.{count}
 use Rattle.rules.specs.Ids.{Id}
 use Rattle.rules.specs.Board.{base}
 use Rattle.rules.specs.Estimator.{Estimator, is-pending, advances, advance-height, skip-heights, confirm-all, finish-block, block-connected}
-use Rattle.rules.specs.Memory.{Lent, confirmed-capacity, pending-records, view, state-of, lay}
+use Rattle.rules.specs.Memory.{Lent, confirmed-capacity, view}
 use Rattle.rules.specs.Calls.{Outcome, outcome, accepted, ids-of, pending-listings}
-use Rattle.rules.proofs.Memory.{Room, state-of-view}
+use Rattle.rules.proofs.Memory.{Room}
 use Rattle.rules.proofs.Well.{Well, well-skip, well-confirm-all}
 use Rattle.rules.proofs.Room.{count-le, within-skip, within-listed}
 use Rattle.rules.proofs.Listed.{ids-sized}
 use Rattle.ready.specs.Ready.{Ready}
 use Rattle.ready.proofs.Ready.{same-recent, ready-after, seen-after, step-after}
-use Rattle.ready.proofs.Facts.{used-pending, used-recent}
+use Rattle.ready.proofs.Facts.{used-recent}
 
 -- listings are counted in what the memory holds
 listings-seen : (s : State) (l : Lent) (is : List Id) → pending-listings base s l is ≡ count (λ i. is-pending i (view base s l .pending)) is

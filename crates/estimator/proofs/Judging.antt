@@ -4,7 +4,7 @@ use mathlib.Core.Path.{_≡_, refl, sym, ap, _∙_}
 use mathlib.Core.Bool.{Bool, true, false, not, cond}
 use mathlib.Core.Logic.{⊎-elim}
 use mathlib.Core.List.{List, [], _∷_}
-use Prim.Native.Nat.{ℕ, _+_, _-_, _%_, _≤_, _<_}
+use Prim.Native.Nat.{ℕ, _+_, _%_, _≤_, _<_}
 use native.Mathlib.Omega.{arith}
 use borrow.Author.Tests.{ltb-false, lt-ltb, le-ltb, eq-eqb, ne-eqb, not-false}
 use lib.Dec.{ltb, eqb}
@@ -16,7 +16,7 @@ use Rattle.kinds.specs.declared.Height.{Height}
 use Rattle.kinds.specs.declared.State.{State}
 use Rattle.kinds.specs.declared.BlockAnswer.{BlockAnswer}
 use Rattle.kinds.specs.Answers.{Answer, done, damaged, bad-list, gap-too-wide, confirmed-full, block-answer}
-use Rattle.rules.specs.Board.{base, confirmed-size, confirmed-most}
+use Rattle.rules.specs.Board.{base}
 use Rattle.rules.specs.Estimator.{block-connected}
 use Rattle.rules.specs.Memory.{Lent, confirmed-capacity, sound, view}
 use Rattle.rules.specs.Calls.{Outcome, outcome, refused, accepted, gap, widest-gap, ids-of, pending-listings, block-call}

@@ -6,7 +6,7 @@ use denote.Ref.{now}
 use Rattle.kinds.specs.Answers.{leave-answer}
 use Rattle.rules.specs.Board.{base}
 use Rattle.rules.specs.Estimator.{is-pending}
-use Rattle.rules.specs.Memory.{pending-records, sound-pending}
+use Rattle.rules.specs.Memory.{sound-pending}
 use Rattle.estimator.proofs.Parts.{pending-table}
 use Rattle.estimator.proofs.Leaving.{leave-damaged, leave-absent, leave-done}
 use borrow.Author.Needs.{needs}

@@ -1,6 +1,6 @@
 -- `estimator::block::connect` meets its contract: memory is ready for each step, and the steps are the definition's, by the laws of `Connecting`.
 -- Assumes nothing.
-use mathlib.Core.Path.{_≡_, sym, _∙_}
+use mathlib.Core.Path.{sym, _∙_}
 use Prim.Native.Nat.{_^_, _<_}
 use denote.Ref.{now}
 use Rattle.rules.specs.Memory.{Lent, lent}

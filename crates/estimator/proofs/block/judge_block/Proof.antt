@@ -1,7 +1,6 @@
 -- `estimator::block::judge_block` meets its contract: each of its answers is the definition's, by the laws of `Judging`. Assumes nothing.
 use mathlib.Core.Path.{_≡_, sym, _∙_}
 use mathlib.Core.Bool.{true}
-use Prim.Native.Nat.{_+_}
 use native.Mathlib.Omega.{arith}
 use borrow.Author.Tests.{not-true, not-false}
 use denote.Ref.{now}
