@@ -31,7 +31,8 @@ use Rattle.table.specs.declared.Found.the-variants.{At, Gap}
 use Rattle.table.proofs.Records.{sized-insert}
 use Rattle.table.proofs.Sound.{sound-told, sound-room}
 use Rattle.table.proofs.Steps.{pending-put}
-use Rattle.confirms.proofs.Edited.{gap-used, edited, there, missing}
+use Rattle.table.proofs.Edited.{edited}
+use Rattle.confirms.proofs.Edited.{gap-used, there, missing}
 use Rattle.estimator.proofs.Parts.{pending-table}
 
 -- what an enter is given

@@ -83,14 +83,14 @@ stands-still k ids B s L e h =
     rw (e, le-ltb (L .0) B h, none)
 
 -- what a caller has after a restored history that is empty but for its last height
-abbrev restored : ℕ → Held
+abbrev pub restored : ℕ → Held
 restored h = let x = started base dirty in record { state = record { last = At (record { 0 = h }); pending = 0; recent = 0 }; memory = x .memory; log = begin }
 
 -- Of two ids of one rate the next block confirms one.
-abbrev next-block : List Call
+abbrev pub next-block : List Call
 next-block = enters 1 5000 850000 ∷ enters 2 5000 850000 ∷ connects (id 1) 850001 ∷ []
 
-abbrev incident : Held
+abbrev pub incident : Held
 incident = after-all base next-block (restored 1000000)
 
 -- resolved for target 1: only the one that was confirmed, where the log has both

@@ -7,7 +7,7 @@ use Rattle.rules.specs.Board.{base}
 use Rattle.rules.specs.Memory.{Lent, lent}
 use Rattle.rules.specs.Calls.{outcome, block-call}
 use Rattle.ready.proofs.Ready.{ready-sound}
-use Rattle.confirms.proofs.Edited.{are-bytes}
+use Rattle.rules.proofs.Bytes.{are-bytes}
 use Rattle.estimator.proofs.Judging.{block-refusal, block-sound, block-room, block-accepted}
 use borrow.Author.Needs.{needs}
 use Rattle.estimator.proofs.block_connected.Statement.{statement}

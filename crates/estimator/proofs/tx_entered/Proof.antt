@@ -17,7 +17,8 @@ use Rattle.rules.proofs.Rates.{bucket-lt}
 use Rattle.rules.proofs.Records.{capacity-room, used-within}
 use Rattle.table.specs.Search.{find-in}
 use Rattle.table.specs.declared.Found.the-variants.{Gap}
-use Rattle.confirms.proofs.Edited.{are-bytes, searchable, gap-used}
+use Rattle.rules.proofs.Bytes.{are-bytes}
+use Rattle.confirms.proofs.Edited.{searchable, gap-used}
 use Rattle.estimator.proofs.Parts.{pending-table}
 use Rattle.estimator.proofs.Entering.{Enter, enter-damaged, enter-there, enter-full, enter-done}
 use borrow.Author.Needs.{needs}

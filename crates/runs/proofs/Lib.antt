@@ -1,0 +1,4 @@
+pub mod Lives
+pub mod Link
+pub mod Base
+pub mod Incident
