@@ -1,0 +1,4 @@
+pub mod Pieces
+pub mod Targets
+pub mod Short
+pub mod Answered
