@@ -6,6 +6,7 @@ use Prim.Native.Nat.{ℕ, zero, suc, _+_, _*_, _/_, _%_, _≤_}
 use native.Mathlib.Omega.{arith}
 use lib.Dec.{ltb}
 use lib.ListN.{length, length-append}
+use lib.Ieee.{Float}
 use Rattle.kinds.specs.declared.Last.{Last}
 use Rattle.kinds.specs.declared.Last.the-variants.{Nothing, At}
 use Rattle.kinds.specs.declared.State.{State}
@@ -15,7 +16,7 @@ use Rattle.rules.specs.Records.{joined}
 use Rattle.print.specs.Numerals.{decimal-in, decimal}
 use Rattle.report.specs.Words.{Text, dash}
 use Rattle.report.specs.Shown.{line, last-text, state-lines, target-lines, name, carried, refusal, told}
-use Rattle.report.specs.Pieces.{carried-rate}
+use Rattle.report.specs.Pieces.{carried-rate, answered}
 
 decimal-in-short : (k n : ℕ) → length (decimal-in k n) ≤ k
 unfolding decimal-in
@@ -26,11 +27,11 @@ decimal-in-short (suc k) n = go (decimal-in-short k (n / 10)) (ltb n 10)
     go h true = omega arith
     go h false = simp length-append (omega arith)
 
-pub decimal-short : (n : ℕ) → length (decimal n) ≤ 20
+decimal-short : (n : ℕ) → length (decimal n) ≤ 20
 unfolding decimal
 decimal-short n = decimal-in-short 20 n
 
-pub rate-short : (rs : List ℕ) → length (carried-rate rs) ≤ 20
+rate-short : (rs : List ℕ) → length (carried-rate rs) ≤ 20
 unfolding carried-rate
 rate-short [] = omega arith
 rate-short (r ∷ rs) = decimal-short r
@@ -70,3 +71,7 @@ told-short ReadAnswer.BadMagic s f h = omega arith
 told-short (ReadAnswer.UnknownVersion v) s f h = simp length-append (omega (arith, decimal-short v))
 told-short ReadAnswer.Corrupt s f h = omega arith
 told-short ReadAnswer.NoRoom s f h = omega arith
+
+pub answered-short : (s : State) (confirmed resolved : List Float) (t : ℕ) → length (answered s confirmed resolved t) ≤ 20
+unfolding answered
+answered-short s confirmed resolved t = rate-short _
