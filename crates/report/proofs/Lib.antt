@@ -1,0 +1,6 @@
+pub mod Pieces
+pub mod Targets
+pub mod Short
+pub mod Answered
+pub mod Reported
+pub mod Never

@@ -1,0 +1,77 @@
+-- What is told is at most 2,048 bytes long: a number has at most 20 digits. Assumes nothing.
+use mathlib.Core.Path.{_≡_, refl, _∙_}
+use mathlib.Core.Bool.{Bool, true, false, cond}
+use mathlib.Core.List.{List, [], _∷_, _++_}
+use Prim.Native.Nat.{ℕ, zero, suc, _+_, _*_, _/_, _%_, _≤_}
+use native.Mathlib.Omega.{arith}
+use lib.Dec.{ltb}
+use lib.ListN.{length, length-append}
+use lib.Ieee.{Float}
+use Rattle.kinds.specs.declared.Last.{Last}
+use Rattle.kinds.specs.declared.Last.the-variants.{Nothing, At}
+use Rattle.kinds.specs.declared.State.{State}
+use Rattle.kinds.specs.declared.ReadAnswer.{ReadAnswer}
+use Rattle.kinds.specs.Answers.{read-answer}
+use Rattle.rules.specs.Records.{joined}
+use Rattle.print.specs.Numerals.{decimal-in, decimal}
+use Rattle.report.specs.Words.{Text, dash}
+use Rattle.report.specs.Shown.{line, last-text, state-lines, target-lines, name, carried, refusal, told}
+use Rattle.report.specs.Pieces.{carried-rate, answered}
+
+decimal-in-short : (k n : ℕ) → length (decimal-in k n) ≤ k
+unfolding decimal-in
+decimal-in-short zero n = omega arith
+decimal-in-short (suc k) n = go (decimal-in-short k (n / 10)) (ltb n 10)
+  where
+    go : length (decimal-in k (n / 10)) ≤ k → (b : Bool) → length (cond b ((48 + n) ∷ []) (decimal-in k (n / 10) ++ ((48 + n % 10) ∷ []))) ≤ suc k
+    go h true = omega arith
+    go h false = simp length-append (omega arith)
+
+decimal-short : (n : ℕ) → length (decimal n) ≤ 20
+unfolding decimal
+decimal-short n = decimal-in-short 20 n
+
+rate-short : (rs : List ℕ) → length (carried-rate rs) ≤ 20
+unfolding carried-rate
+rate-short [] = omega arith
+rate-short (r ∷ rs) = decimal-short r
+
+last-short : (l : Last) → length (last-text l) ≤ 20
+unfolding last-text
+last-short Nothing = omega arith
+last-short (At h) = decimal-short (h .0)
+
+length-joined : (a b : List Text) → length (joined (a ++ b)) ≡ length (joined a) + length (joined b)
+unfolding joined
+length-joined [] b = omega arith
+length-joined (t ∷ a) b = let i = length-joined a b in simp length-append (omega arith)
+
+state-short : (s : State) → length (joined (state-lines s)) ≤ 100
+unfolding joined state-lines line
+state-short s =
+    let l = last-short (s .last) in
+    let p = decimal-short (s .pending) in
+    let r = decimal-short (s .recent) in
+    simp length-append (omega arith)
+
+lines-short : (f : ℕ → Text) → ((t : ℕ) → length (f t) ≤ 20) → (t n : ℕ) → length (joined (target-lines f t n)) ≤ 42 * n
+unfolding joined target-lines
+lines-short f h t zero = omega arith
+lines-short f h t (suc n) =
+    let d = decimal-short t in
+    let x = h t in
+    let i = lines-short f h (suc t) n in
+    simp length-append (omega arith)
+
+pub told-short : (a : ReadAnswer) (s : State) (f : ℕ → Text) → ((t : ℕ) → length (f t) ≤ 20) → length (joined (told (read-answer a) s f)) ≤ 2048
+unfolding told read-answer refusal name carried joined
+told-short ReadAnswer.Done s f h = omega (arith, length-joined (state-lines s) (target-lines f 1 25), state-short s, lines-short f h 1 25)
+told-short ReadAnswer.Damaged s f h = omega arith
+told-short ReadAnswer.BadMagic s f h = omega arith
+told-short (ReadAnswer.UnknownVersion v) s f h = simp length-append (omega (arith, decimal-short v))
+told-short ReadAnswer.Corrupt s f h = omega arith
+told-short ReadAnswer.NoRoom s f h = omega arith
+
+pub answered-short : (s : State) (confirmed resolved : List Float) (t : ℕ) → length (answered s confirmed resolved t) ≤ 20
+unfolding answered
+answered-short s confirmed resolved t = rate-short _

@@ -1,0 +1,67 @@
+// What the program `show` prints of a history file, as text in a lent buffer.
+mod lines;
+
+use estimator::from_history_bytes;
+use kinds::ReadAnswer;
+use kinds::State;
+use lines::put_line;
+use lines::put_state;
+use lines::put_targets;
+use lines::put_version;
+ghost use mathlib.Core.Path.{_≡_};
+ghost use lib.ListN.{length};
+ghost use lib.Seq.{sets};
+ghost use Rattle.io.specs.Counts.{Counts};
+ghost use Rattle.kinds.specs.Answers.{read-answer};
+ghost use Rattle.print.specs.Page.{page};
+ghost use Rattle.report.specs.Shown.{told, shown};
+ghost use Rattle.report.specs.Pieces.{writes, answered};
+
+// What is told of a reading: the state and the rates, or why it was refused.
+fn tell(
+    out: &mut [u8],
+    answer: ReadAnswer,
+    state: State,
+    confirmed: &[f64],
+    resolved: &[f64],
+) -> usize
+    ensures { λ r. ⌜
+        page (now (out .exit)) r
+        ≡ writes (told (read-answer answer) state (answered state (now (confirmed .entry)) (now (resolved .entry)))) (page (now (out .entry)) 0) ⌝ }
+{
+    match answer {
+        ReadAnswer::Done => {
+            let at = put_state(out, 0, state);
+            put_targets(out, at, state, confirmed, resolved)
+        }
+        ReadAnswer::Damaged => put_line(out, 0, b"refused ", b"Damaged"),
+        ReadAnswer::BadMagic => put_line(out, 0, b"refused ", b"BadMagic"),
+        ReadAnswer::UnknownVersion(v) => put_version(out, 0, v),
+        ReadAnswer::Corrupt => put_line(out, 0, b"refused ", b"Corrupt"),
+        ReadAnswer::NoRoom => put_line(out, 0, b"refused ", b"NoRoom"),
+    }
+}
+
+// Everything that `show` prints of a file; the answer is how many bytes that is. (It never tells of NoRoom or Damaged: proofs/Never.antt.)
+pub fn report(file: &[u8], out: &mut [u8; 2048]) -> usize
+    ensures { λ r. ⌜ Counts r (now (out .exit)) ⌝ }
+    ensures { λ r. ⌜ page (now (out .exit)) r ≡ page (sets (now (out .entry)) 0 (shown (now (file .entry)))) (length (shown (now (file .entry)))) ⌝ }
+{
+    if 65536 < file.len() {
+        return put_line(out, 0, b"refused ", b"TooLong");
+    }
+    let mut confirmed = [0.0f64; 3550];
+    let mut resolved = [0.0f64; 3550];
+    let mut pending = [0u8; 7568];
+    let mut recent = [0u8; 7560];
+    let r = from_history_bytes(
+        file,
+        &mut confirmed,
+        &mut resolved,
+        &mut pending,
+        &mut recent,
+    );
+    let answer = r.answer;
+    let state = r.state;
+    tell(out, answer, state, &confirmed, &resolved)
+}

@@ -1,0 +1,114 @@
+// The lines that are printed, put into a buffer at a cursor. Each function answers the next cursor.
+use estimator::estimate;
+use kinds::Blocks;
+use kinds::Estimated;
+use kinds::Last;
+use kinds::State;
+use print::put;
+use print::put_byte;
+use print::put_decimal;
+ghost use mathlib.Core.Path.{_≡_};
+ghost use Rattle.kinds.specs.Answers.{unknown-version, estimate-answer};
+ghost use Rattle.print.specs.Page.{page, write};
+ghost use Rattle.print.specs.Numerals.{decimal};
+ghost use Rattle.report.specs.Words.{height};
+ghost use Rattle.report.specs.Shown.{line, last-text, state-lines, target-lines, refusal};
+ghost use Rattle.report.specs.Pieces.{writes, carried-rate, answered};
+
+// A word and what is told of it.
+pub(crate) fn put_line(out: &mut [u8], at: usize, word: &[u8], text: &[u8]) -> usize
+    ensures { λ r. ⌜ page (now (out .exit)) r ≡ writes (line (now (word .entry)) (now (text .entry))) (page (now (out .entry)) at) ⌝ }
+{
+    let a = put(out, at, word);
+    let b = put(out, a, text);
+    put_byte(out, b, 10)
+}
+
+// A word and a number.
+fn put_number(out: &mut [u8], at: usize, word: &[u8], n: u64) -> usize
+    ensures { λ r. ⌜ page (now (out .exit)) r ≡ writes (line (now (word .entry)) (decimal n)) (page (now (out .entry)) at) ⌝ }
+{
+    let a = put(out, at, word);
+    let b = put_decimal(out, a, n);
+    put_byte(out, b, 10)
+}
+
+// The last height or `-`.
+fn put_last(out: &mut [u8], at: usize, last: Last) -> usize
+    ensures { λ r. ⌜ page (now (out .exit)) r ≡ writes (line height (last-text last)) (page (now (out .entry)) at) ⌝ }
+{
+    let Last::At(h) = last else {
+        return put_line(out, at, b"height ", b"-");
+    };
+    let n = h.0;
+    put_number(out, at, b"height ", n as u64)
+}
+
+// The last height and the used numbers.
+pub(crate) fn put_state(out: &mut [u8], at: usize, state: State) -> usize
+    ensures { λ r. ⌜ page (now (out .exit)) r ≡ writes (state-lines state) (page (now (out .entry)) at) ⌝ }
+{
+    let last = state.last;
+    let pending = state.pending;
+    let recent = state.recent;
+    let a = put_last(out, at, last);
+    let b = put_number(out, a, b"pending ", pending as u64);
+    put_number(out, b, b"confirmed ", recent as u64)
+}
+
+// That a file's version is not known.
+pub(crate) fn put_version(out: &mut [u8], at: usize, v: u32) -> usize
+    ensures { λ r. ⌜ page (now (out .exit)) r ≡ writes (refusal (unknown-version v)) (page (now (out .entry)) at) ⌝ }
+{
+    let a = put(out, at, b"refused ");
+    let b = put(out, a, b"UnknownVersion");
+    put_number(out, b, b" ", v as u64)
+}
+
+// A rate or `-`.
+fn put_rate(out: &mut [u8], at: usize, e: Estimated) -> usize
+    ensures { λ r. ⌜ page (now (out .exit)) r ≡ write (carried-rate (estimate-answer e .carries)) (page (now (out .entry)) at) ⌝ }
+{
+    match e {
+        Estimated::Rate(rate) => put_decimal(out, at, rate.0),
+        Estimated::NoRate => put_byte(out, at, 45),
+        Estimated::Damaged => put_byte(out, at, 45),
+    }
+}
+
+// A target and its rate.
+fn put_target(
+    out: &mut [u8],
+    at: usize,
+    t: u32,
+    state: State,
+    confirmed: &[f64],
+    resolved: &[f64],
+) -> usize
+    ensures { λ r. ⌜ page (now (out .exit)) r ≡ writes (target-lines (answered state (now (confirmed .entry)) (now (resolved .entry))) t 1) (page (now (out .entry)) at) ⌝ }
+{
+    let e = estimate(state, confirmed, resolved, Blocks(t));
+    let a = put_decimal(out, at, t as u64);
+    let b = put_byte(out, a, 32);
+    let c = put_rate(out, b, e);
+    put_byte(out, c, 10)
+}
+
+// Each target from 1 to 25 and its rate.
+pub(crate) fn put_targets(
+    out: &mut [u8],
+    from: usize,
+    state: State,
+    confirmed: &[f64],
+    resolved: &[f64],
+) -> usize
+    ensures { λ r. ⌜ page (now (out .exit)) r ≡ writes (target-lines (answered state (now (confirmed .entry)) (now (resolved .entry))) 1 25) (page (now (out .entry)) from) ⌝ }
+{
+    let mut at = from;
+    let mut t: u32 = 1;
+    while t < 26 {
+        at = put_target(out, at, t, state, confirmed, resolved);
+        t += 1;
+    }
+    at
+}
