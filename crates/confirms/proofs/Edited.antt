@@ -1,39 +1,32 @@
 -- What a search of one table tells, and what an edit of it leaves: the rules' records, laid. Whatever was edited, the slice still holds bytes, so its
 -- records are those of their bytes; and `table` says which records they are. Assumes nothing.
-use mathlib.Core.Path.{_≡_, refl, sym, ap, _∙_}
+use mathlib.Core.Path.{_≡_, sym, ap, _∙_}
 use mathlib.Core.Bool.{true, false}
-use mathlib.Core.List.{List, [], _∷_, map}
+use mathlib.Core.List.{List, [], map}
 use mathlib.Core.Option.{none, some}
-use Prim.Native.Nat.{ℕ, suc, _+_, _-_, _*_, _^_, _≤_, _<_}
-use native.Mathlib.Nat.{mul-le-mul-right}
+use Prim.Native.Nat.{ℕ, _+_, _-_, _*_, _^_, _≤_, _<_}
 use native.Mathlib.Omega.{arith}
-use lib.Dec.{T, ltb, eqb, lt→ltb}
-use lib.Ieee.Fits.{and-i}
+use lib.Dec.{T, eqb}
 use lib.ListN.{length, getD, set, length-map, length-append, length-take, length-drop, length-set}
 use lib.Pow.{areBytes}
 use Rattle.rules.specs.Ids.{Id, rising}
-use Rattle.rules.specs.Records.{records, id-of, capacity, sound-table, laid}
-use Rattle.rules.specs.Board.{base, Confirmed, Kept, pending-size, pending-most, confirmed-size, confirmed-most, pending-of, confirmed-of, confirmed-bytes}
+use Rattle.rules.specs.Records.{records, id-of, sound-table, laid}
+use Rattle.rules.specs.Board.{base, Confirmed, pending-size, pending-most, confirmed-size, confirmed-most, pending-of, confirmed-of, confirmed-bytes}
 use Rattle.rules.specs.Estimator.{is-pending, find, without, holds, become}
 use Rattle.rules.specs.Memory.{pending-records, confirmed-records, confirmed-capacity, lay-pending, lay-confirmed}
 use Rattle.rules.proofs.Ids.{dropped-absent}
-use Rattle.rules.proofs.Records.{Sized, length-records, sized-records, laid-records, laid-length}
-use Rattle.rules.proofs.Memory.{pending-kept, confirmed-kept, ConfirmedFits, forth-records}
+use Rattle.rules.proofs.Records.{Sized, length-records, sized-records}
+use Rattle.rules.proofs.Memory.{pending-kept, confirmed-kept, ConfirmedFits, own}
 use Rattle.table.specs.Search.{find-in}
 use Rattle.table.specs.Edit.{insert-at, remove-at}
 use Rattle.table.specs.Fields.{with-field}
 use Rattle.table.specs.declared.Found.the-variants.{At, Gap}
 use Rattle.table.proofs.Fields.{length-with-field}
-use Rattle.table.proofs.Records.{length-ids, cap-room, sized-insert, sized-remove, sized-set, sized-at}
+use Rattle.table.proofs.Records.{length-ids, sized-insert, sized-remove, sized-set, sized-at}
 use Rattle.table.proofs.Search.{at-told, gap-told}
-use Rattle.table.proofs.Sound.{sound-told, sound-room, laid-up}
-use Rattle.table.proofs.Laid.{laid-same}
+use Rattle.table.proofs.Sound.{sound-told, sound-room}
+use Rattle.table.proofs.Edited.{edited}
 use Rattle.table.proofs.Steps.{pending-missing, pending-there, pending-found, pending-lost, pending-without, confirmed-not-held, confirmed-held, confirmed-new, confirmed-again}
-
--- the elements of a slice of bytes are bytes
-pub are-bytes : (xs : List ℕ) → ((i : ℕ) → getD xs i 0 < 256) → T (areBytes xs)
-are-bytes [] h = tt
-are-bytes (x ∷ xs) h = and-i (ltb x 256) (areBytes xs) (lt→ltb x 256 (h 0)) (are-bytes xs (λ i. h (suc i)))
 
 -- ---- any table
 
@@ -52,25 +45,6 @@ gap-used size used n xs i f = let t = gap-told i (map id-of (records size used x
 -- what reading or changing the record that is found asks
 pub in-table : (size most used n : ℕ) (xs : List ℕ) (i : Id) → sound-table size most used xs ≡ true → find-in i (map id-of (records size used xs)) ≡ At n → (n < used) × (used * size ≤ length xs)
 in-table size most used n xs i s f = (at-used size used n xs i f, sound-room size most used xs (sound-told size most used xs s))
-
-module _ {A : Type 0} {size : ℕ} {to : A → List ℕ} {from : List ℕ → A} {Fits : A → Type 0} (k : Kept A size to from Fits) where
-  -- the records bs in n places, which hold qs
-  pub edited : (most used n : ℕ) (bs : List (List ℕ)) (qs : List A) (xs ys : List ℕ) → sound-table size most used xs ≡ true → T (areBytes ys)
-      → used ≤ n → n ≤ capacity size most xs → length bs ≤ n → Sized size bs → map from bs ≡ qs → ys ≡ laid size n bs xs
-      → ys ≡ laid size (capacity size most xs) (map to qs) xs
-  edited most used n bs qs xs ys s b u l h z e q =
-      let room : n * size ≤ length xs = (let r = cap-room size most n _ xs refl l in omega arith) in
-      let long : length ys ≡ length xs = ap length q ∙ laid-length size n bs xs z h room in
-      let there : records size (length bs) ys ≡ bs = ap (records size (length bs)) q ∙ laid-records size n bs xs z in
-      let again : map to (map from bs) ≡ bs = ap (λ (r : List (List ℕ)). map to (map from r)) (sym there) ∙ forth-records k (length bs) ys (omega (arith, mul-le-mul-right size h)) b ∙ there in
-      q ∙ laid-up size most used n bs xs (sound-told size most used xs s) h u l ∙ ap (λ (r : List (List ℕ)). laid size (capacity size most xs) r xs) (sym again ∙ ap (map to) e)
-
-  -- nothing was edited
-  pub unedited : (most used : ℕ) (xs : List ℕ) → sound-table size most used xs ≡ true → T (areBytes xs) → xs ≡ laid size (capacity size most xs) (map to (map from (records size used xs))) xs
-  unedited most used xs s b =
-      let g = sound-told size most used xs s in
-      let room = sound-room size most used xs g in
-      edited most used used (records size used xs) (map from (records size used xs)) xs xs s b (omega arith) (g .fit) (omega (arith, length-records size used xs)) (sized-records size used xs room) refl (sym (laid-same size used xs room))
 
 -- ---- the pending table
 
@@ -115,7 +89,7 @@ module _ (i : Id) (used n : ℕ) (xs : List ℕ) (s : sound-table pending-size p
   unmoved b f =
       let rs : List (List ℕ) = records pending-size used xs in
       let e : without i (map pending-of rs) ≡ map pending-of rs = dropped-absent (λ r. r .id) i (map pending-of rs) (sym (missing f)) in
-      rw e (sym (length-map rs pending-of ∙ length-records pending-size used xs), unedited pending-kept pending-most used xs s b)
+      rw e (sym (length-map rs pending-of ∙ length-records pending-size used xs), sym (own pending-kept pending-most used xs s b))
 
 -- ---- the confirmed table
 

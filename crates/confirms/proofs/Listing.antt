@@ -21,7 +21,7 @@ use Rattle.rules.proofs.Well.{Well, well-confirm}
 use Rattle.rules.proofs.Room.{count-le, within-confirm}
 use Rattle.ready.specs.Ready.{Ready}
 use Rattle.ready.proofs.Ready.{ready-after, seen-after, step-after, step-none, same-recent}
-use Rattle.ready.proofs.Facts.{used-recent}
+use Rattle.ready.proofs.Facts.{used-recent, Long, long-same}
 
 -- the id that the code lends, from `at` to `at + 32`
 abbrev pub listed : ℕ → List ℕ → Id
@@ -73,13 +73,6 @@ module _ (p : Id → Bool) (xs : List ℕ) where
 
 -- ---- the steps of the block
 
--- the slices are as long as they were
-pub record Long (before after : Lent) : Type 0 where
-  pub confirmed : length (after .confirmed) ≡ length (before .confirmed)
-  pub resolved : length (after .resolved) ≡ length (before .resolved)
-  pub pending : length (after .pending) ≡ length (before .pending)
-  pub recent : length (after .recent) ≡ length (before .recent)
-
 pub record Going (B : ℕ) (xs : List ℕ) (s₀ : State) (l₀ : Lent) (at : ℕ) (s : State) (l : Lent) : Type 0 where
   pub within : at ≤ length xs
   pub long : Long l₀ l
@@ -89,7 +82,7 @@ pub record Going (B : ℕ) (xs : List ℕ) (s₀ : State) (l₀ : Lent) (at : �
 
 module _ (B : ℕ) (xs : List ℕ) (s₀ : State) (l₀ : Lent) where
   pub going-none : Ready s₀ l₀ → s₀ .recent + pending-listings base s₀ l₀ (ids-of xs) ≤ confirmed-capacity (l₀ .recent) → Going B xs s₀ l₀ 0 s₀ l₀
-  going-none r h = record { within = omega arith; long = record { confirmed = refl; resolved = refl; pending = refl; recent = refl }; ready = r; room = h; left = refl }
+  going-none r h = record { within = omega arith; long = long-same l₀; ready = r; room = h; left = refl }
 
   module _ (at : ℕ) (s : State) (l : Lent) (g : Going B xs s₀ l₀ at s l) where
     -- there is room for the next one

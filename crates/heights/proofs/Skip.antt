@@ -1,10 +1,9 @@
 -- Heights advanced one after the other: each finds memory ready, since an advance keeps the estimator well-formed and needs no room, and what it leaves is
 -- told of the memory before the first. Assumes nothing.
-use mathlib.Core.Path.{_≡_, refl, sym, ap, _∙_}
+use mathlib.Core.Path.{_≡_, sym, ap, _∙_}
 use Prim.Native.Nat.{ℕ, suc, _+_, _-_, _≤_, _<_, zero-le}
 use native.Mathlib.Numerals.{add-one}
 use native.Mathlib.Omega.{arith}
-use lib.ListN.{length}
 use Rattle.kinds.specs.declared.Height.{Height}
 use Rattle.kinds.specs.declared.Last.{Last}
 use Rattle.kinds.specs.declared.Last.the-variants.{Nothing, At}
@@ -18,20 +17,8 @@ use Rattle.rules.proofs.Memory.{Room}
 use Rattle.rules.proofs.Well.{Well, well-advances}
 use Rattle.rules.proofs.Room.{within-advances}
 use Rattle.ready.specs.Ready.{Ready}
+use Rattle.ready.proofs.Facts.{Long, long-same, long-after}
 use Rattle.ready.proofs.Ready.{ready-after, step-after, step-none}
-
--- the slices are as long as they were
-pub record Long (m l : Lent) : Type 0 where
-  pub confirmed : length (l .confirmed) ≡ length (m .confirmed)
-  pub resolved : length (l .resolved) ≡ length (m .resolved)
-  pub pending : length (l .pending) ≡ length (m .pending)
-  pub recent : length (l .recent) ≡ length (m .recent)
-
-long-same : (m : Lent) → Long m m
-long-same m = record { confirmed = refl; resolved = refl; pending = refl; recent = refl }
-
-long-after : {m l k : Lent} → Long m l → Long l k → Long m k
-long-after a b = record { confirmed = b .confirmed ∙ a .confirmed; resolved = b .resolved ∙ a .resolved; pending = b .pending ∙ a .pending; recent = b .recent ∙ a .recent }
 
 -- i of the n heights after L are advanced
 pub record Going (L n : ℕ) (s₀ : State) (m : Lent) (s : State) (l : Lent) (i : ℕ) : Type 0 where

@@ -1,5 +1,5 @@
 -- What a step may use of memory that is ready: lengths, sound tables, records in range. Assumes nothing.
-use mathlib.Core.Path.{_≡_, sym, ap, ap₂, _∙_}
+use mathlib.Core.Path.{_≡_, refl, sym, ap, ap₂, _∙_}
 use mathlib.Core.Bool.{true}
 use mathlib.Core.List.{List, map}
 use Prim.Native.Nat.{ℕ, _≤_}
@@ -48,3 +48,16 @@ module _ (s : State) (l : Lent) (r : Ready s l) where
   recent-sound =
       ap₂ (λ (n : ℕ) (xs : List ℕ). sound-table confirmed-size confirmed-most n xs) (sym used-recent) (sym (ap (λ (m : Lent). m .recent) (r .own)))
       ∙ laid-sound confirmed-kept (λ q. q .id) confirmed-id confirmed-most (l .recent) (r .well .recent) (r .well .recent-up) (r .room .recent)
+
+-- the slices are as long as they were
+pub record Long (before after : Lent) : Type 0 where
+  pub confirmed : length (after .confirmed) ≡ length (before .confirmed)
+  pub resolved : length (after .resolved) ≡ length (before .resolved)
+  pub pending : length (after .pending) ≡ length (before .pending)
+  pub recent : length (after .recent) ≡ length (before .recent)
+
+pub long-same : (l : Lent) → Long l l
+long-same l = record { confirmed = refl; resolved = refl; pending = refl; recent = refl }
+
+pub long-after : {l m n : Lent} → Long l m → Long m n → Long l n
+long-after a b = record { confirmed = b .confirmed ∙ a .confirmed; resolved = b .resolved ∙ a .resolved; pending = b .pending ∙ a .pending; recent = b .recent ∙ a .recent }

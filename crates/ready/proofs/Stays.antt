@@ -44,7 +44,7 @@ pub record Typed (l : Lent) : Type 0 where
 
 -- ---- sound counts are counts
 
-counts-of : (xs : Counts) → sound-counts xs ≡ true → ((i : ℕ) → i < length xs → T (fits binary64 (getD xs i nan))) → All Counted (take places-of-counts xs)
+pub counts-of : (xs : Counts) → sound-counts xs ≡ true → ((i : ℕ) → i < length xs → T (fits binary64 (getD xs i nan))) → All Counted (take places-of-counts xs)
 unfolding sound-counts
 counts-of xs h f =
     let many : places-of-counts ≤ length xs = leb-true _ _ (and-left (enough xs) _ h) in

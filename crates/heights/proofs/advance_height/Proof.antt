@@ -5,6 +5,7 @@ use native.Mathlib.Omega.{arith}
 use denote.Ref.{now}
 use Rattle.rules.specs.Memory.{Lent, lent}
 use Rattle.floats.proofs.Bits.{decay-is}
+use Rattle.table.proofs.Edited.{are-bytes}
 use Rattle.ready.proofs.Facts.{confirmed-places, resolved-places}
 use Rattle.heights.proofs.Advance.{pending-room, recent-room, pending-well, advanced}
 use Rattle.heights.proofs.advance_height.Statement.{statement}
@@ -47,11 +48,13 @@ returns c =
     let pruned = c .before .before .prune-confirmed in
     let u = c .before .before .before .before .before .before .before .before in
     let aged = u .apply-decay in
-    let v = u .before .before .before .before .before .before .before in
+    let w = u .before .before .before in
+    let v = w .before .before .before .before in
     let expired = v .expire-pending in
     let s = v .before .before .before .before .before .before .before in
     advanced (s .args .state) (given s) (s .pre) (s .args .h) _ (expired .result) (pruned .result) (aged .last .0) (expired .last .0) (aged .last .1 .0) (expired .last .1 .0) (pruned .last .0)
-    decay-is (expired .ensures .0) (expired .ensures .1 .0) (expired .ensures .1 .1) (aged .ensures .0) (aged .ensures .1) (pruned .ensures .0) (pruned .ensures .1)
+    decay-is (are-bytes (expired .last .1 .0) (λ i. w .slice-known6 .given i .fits)) (are-bytes (pruned .last .0) (λ i. c .slice-known9 .given i .fits))
+    (expired .ensures .0) (expired .ensures .1 .0) (expired .ensures .1 .1) (aged .ensures .0) (aged .ensures .1) (pruned .ensures .0) (pruned .ensures .1)
 
 pub advance-height-spec : {M : Type 1} → statement M
 advance-height-spec =

@@ -13,7 +13,7 @@ use Rattle.table.specs.Search.{find-in}
 use Rattle.table.specs.declared.Found.{Found}
 use Rattle.table.specs.declared.Found.the-variants.{At, Gap}
 use Rattle.table.proofs.Records.{record-end}
-use Rattle.table.proofs.Placed.{Placing, at-within, at-count, at-bytes, gap-within, gap-is, gap-count}
+use Rattle.table.proofs.Placed.{at-within, at-count, at-bytes-more, gap-within, gap-is, gap-count}
 use borrow.Author.Needs.{needs}
 use Rattle.table.proofs.place.Statement.{statement}
 use Rattle.table.proofs.place.Tie as tie
@@ -28,9 +28,6 @@ Ends s o = find-in (id-of (now (s .args .rec))) (map id-of (rs s)) ≡ o
 abbrev start : tie.After-find → tie.Start
 start c = c .before .before .before .before .before
 
-asked : (s : tie.Start) → Placing (s .args .size) (s .args .used) (now (s .args .rec)) (now (s .args .table))
-asked s = record { long = s .pre .1 .0; room = s .pre .0 .1; up = s .pre .1 .1 }
-
 found : (c : tie.After-i) → Ends (start (c .before .before)) (At (c .i .given .0 .0))
 found c = sym (c .before .before .find .ensures) ∙ c .i .given .1
 
@@ -42,7 +39,7 @@ goes : (c : tie.After-i) → c .i .given .0 .0 * start (c .before .before) .args
 goes c =
     let s = start (c .before .before) in
     record-end (s .args .size) (s .args .used) (c .i .given .0 .0)
-    (at-within (s .args .size) (s .args .used) (c .i .given .0 .0) (now (s .args .rec)) (now (s .args .table)) (asked s) (found c))
+    (at-within (s .args .size) (s .args .used) (c .i .given .0 .0) (now (s .args .rec)) (now (s .args .table)) (s .pre .1 .1) (found c))
 
 slice-aggregate-find : tie.Need-slice-aggregate-find
 slice-aggregate-find c = let a = c .before .before .before .before .args in sym (length-take-le 32 (a .rec .now) (omega arith))
@@ -80,8 +77,8 @@ insert-requires : tie.Need-insert-requires
 insert-requires c κs =
     let t = c .before .before in
     let s = start (t .before .before) in
-    let h = gap-within (s .args .size) (s .args .used) (t .i2 .given .0 .0) (now (s .args .rec)) (now (s .args .table)) (asked s) (missing t) in
-    ((h, s .pre .0 .1), s .pre .1 .0)
+    let h = gap-within (s .args .size) (s .args .used) (t .i2 .given .0 .0) (now (s .args .rec)) (now (s .args .table)) (s .pre .1 .1) (missing t) in
+    ((omega arith, s .pre .0 .1), s .pre .1 .0)
 
 add-result : tie.Need-add-result
 add-result c =
@@ -95,8 +92,8 @@ returns : tie.Need-returns
 returns c =
     let t = c .before .before .before .before .before .before .before .before .before in
     let s = start (t .before .before) in
-    let n = at-count (s .args .size) (s .args .used) (t .i .given .0 .0) (now (s .args .rec)) (now (s .args .table)) (asked s) (found t) in
-    let b = at-bytes (s .args .size) (s .args .used) (t .i .given .0 .0) (now (s .args .rec)) (now (s .args .table)) (asked s) (found t) in
+    let n = at-count (s .args .size) (s .args .used) (t .i .given .0 .0) (now (s .args .rec)) (now (s .args .table)) (s .pre .1 .1) (found t) in
+    let b = at-bytes-more (s .args .size) (s .args .used) (t .i .given .0 .0) (now (s .args .rec)) (now (s .args .table)) (s .pre .1 .1) (found t) (s .pre .1 .0) (s .pre .0 .1) in
     (n, cc)
 
 same-length-2 : tie.Need-same-length-2
@@ -106,8 +103,8 @@ returns-2 : tie.Need-returns-2
 returns-2 c =
     let t = c .before .before .before .before .before in
     let s = start (t .before .before) in
-    let n = gap-count (s .args .size) (s .args .used) (t .i2 .given .0 .0) (now (s .args .rec)) (now (s .args .table)) (asked s) (missing t) in
-    let e = gap-is (s .args .size) (s .args .used) (t .i2 .given .0 .0) (now (s .args .rec)) (now (s .args .table)) (asked s) (missing t) in
+    let n = gap-count (s .args .size) (s .args .used) (t .i2 .given .0 .0) (now (s .args .rec)) (now (s .args .table)) (s .pre .1 .1) (missing t) in
+    let e = gap-is (s .args .size) (s .args .used) (t .i2 .given .0 .0) (now (s .args .rec)) (now (s .args .table)) (s .pre .1 .1) (missing t) in
     (n, c .before .before .insert .ensures ∙ ap (λ (qs : List (List ℕ)). laid (s .args .size) (s .args .used + 1) qs (now (s .args .table))) e)
 
 pub place-spec : {M : Type 1} → statement M

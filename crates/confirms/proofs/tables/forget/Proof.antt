@@ -3,7 +3,8 @@ use mathlib.Core.Path.{sym, _∙_}
 use native.Mathlib.Omega.{arith}
 use denote.Ref.{now}
 use Rattle.rules.specs.Board.{pending-size, pending-most}
-use Rattle.confirms.proofs.Edited.{are-bytes, searchable, in-table, removed, unmoved}
+use Rattle.table.proofs.Edited.{are-bytes}
+use Rattle.confirms.proofs.Edited.{searchable, in-table, removed, unmoved}
 use borrow.Author.Needs.{needs}
 use Rattle.confirms.proofs.tables.forget.Statement.{statement}
 use Rattle.confirms.proofs.tables.forget.Tie as tie

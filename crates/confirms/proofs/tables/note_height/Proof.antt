@@ -3,7 +3,8 @@ use mathlib.Core.Path.{sym, _∙_}
 use native.Mathlib.Omega.{arith}
 use denote.Ref.{now}
 use Rattle.rules.specs.Board.{confirmed-size, confirmed-most}
-use Rattle.confirms.proofs.Edited.{are-bytes, searchable, in-table, gap-used, noted-new, noted-again}
+use Rattle.table.proofs.Edited.{are-bytes}
+use Rattle.confirms.proofs.Edited.{searchable, in-table, gap-used, noted-new, noted-again}
 use borrow.Author.Needs.{needs}
 use Rattle.confirms.proofs.tables.note_height.Statement.{statement}
 use Rattle.confirms.proofs.tables.note_height.Tie as tie

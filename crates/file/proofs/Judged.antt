@@ -1,0 +1,28 @@
+-- The judging of a whole file, case by case. No contract cites this file. Assumes nothing.
+use mathlib.Core.Path.{_≡_, sym, ap, _∙_}
+use mathlib.Core.Bool.{true, false}
+use mathlib.Core.List.{List}
+use Prim.Native.Nat.{ℕ, _+_, _≤_}
+use lib.ListN.{length, drop}
+use Rattle.kinds.specs.declared.Last.{Last}
+use Rattle.kinds.specs.Answers.{corrupt}
+use Rattle.rules.specs.Ladder.{buckets}
+use Rattle.format.specs.Parts.{bad, good, ended, is-read}
+use Rattle.format.specs.File.{version-1, rates, read-buckets, read-tables, read-history}
+use Rattle.codec.specs.Places.{buckets-size}
+use Rattle.codec.proofs.Rated.{both-rows}
+use Rattle.file.specs.Says.{tables-say, head-size, filed}
+use Rattle.file.specs.declared.tables.Sizes.{Sizes}
+use Rattle.file.proofs.Whole.{Headed, with-tables, file-tables}
+
+module _ (s : List ℕ) (last : Last) (h : Headed s last) (at : ℕ) (e : at ≡ head-size last)
+    (k : at + buckets-size ≤ length s) (f : is-read (read-buckets rates (drop at s)) ≡ true)
+    (t : Sizes) (q : tables-say t s (at + buckets-size) ≡ ended (read-tables version-1 (drop (at + buckets-size) s))) where
+  pub tables-good : t .ok ≡ true → good (filed last (t .pending) (t .recent) s) ≡ read-history version-1 s
+  unfolding tables-say with-tables
+  tables-good o =
+      rw (← e) (sym (file-tables s last h at e k f ∙ ap (with-tables last (both-rows buckets s at)) (sym q) ∙ rw o))
+
+  pub tables-bad : t .ok ≡ false → bad corrupt ≡ read-history version-1 s
+  unfolding tables-say with-tables
+  tables-bad o = sym (file-tables s last h at e k f ∙ ap (with-tables last (both-rows buckets s at)) (sym q) ∙ rw o)

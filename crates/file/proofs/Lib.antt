@@ -1,0 +1,6 @@
+pub mod Same
+pub mod Header
+pub mod Listed
+pub mod Whole
+pub mod Judged
+pub mod Held

@@ -1,0 +1,50 @@
+-- The file of a fresh start: how it begins, how long it is, that it is read, and that one byte more is not. Assumes nothing.
+use mathlib.Core.Path.{_≡_, refl}
+use mathlib.Core.List.{[], _∷_, _++_}
+use Prim.Native.Nat.{ℕ}
+use native.Mathlib.Omega.{arith}
+use lib.ListN.{length, take, length-replicate}
+use Rattle.kinds.specs.Answers.{corrupt}
+use Rattle.rules.specs.Ladder.{ladder}
+use Rattle.rules.specs.Counts.{places-of-counts, nought}
+use Rattle.rules.specs.Bytes.{bytes}
+use Rattle.rules.specs.Records.{joined}
+use Rattle.rules.specs.Estimator.{fresh}
+use Rattle.rules.proofs.All.{none}
+use Rattle.floats.proofs.Steps.{all-nought}
+use Rattle.format.specs.Parts.{bad, good}
+use Rattle.format.specs.File.{version-1, rates, rates-from, bucket-bytes, last-bytes, head-bytes, history-of, read-history, history-length}
+use Rattle.format.proofs.Back.{version-1-lawful, Writable, written-is-read, extra-is-corrupt}
+use Rattle.format.proofs.Lengths.{length-history}
+
+-- its start
+fresh-start : take 19 (history-of version-1 fresh) ≡ 0x42 ∷ 0x52 ∷ 0x53 ∷ 0x45 ∷ 0x46 ∷ 0x45 ∷ 0x45 ∷ 0x53 ∷ 1 ∷ 0 ∷ 0 ∷ 0 ∷ 0 ∷ 0x8e ∷ 0 ∷ 0 ∷ 0 ∷ 0xe8 ∷ 3 ∷ []
+unfolding history-of head-bytes joined last-bytes bytes bucket-bytes rates rates-from ladder fresh
+fresh-start = refl
+
+fresh-writable : Writable fresh
+unfolding fresh
+fresh-writable =
+    record {
+      last = tt;
+      confirmed-places = length-replicate places-of-counts nought;
+      resolved-places = length-replicate places-of-counts nought;
+      confirmed = all-nought places-of-counts;
+      resolved = all-nought places-of-counts;
+      pending-few = omega arith;
+      recent-few = omega arith;
+      pending = none;
+      recent = none;
+    }
+
+fresh-back : read-history version-1 (history-of version-1 fresh) ≡ good fresh
+fresh-back = written-is-read version-1 version-1-lawful fresh fresh-writable
+
+-- one byte extra: 10
+fresh-extra : (b : ℕ) → read-history version-1 (history-of version-1 fresh ++ (b ∷ [])) ≡ bad corrupt
+fresh-extra b = extra-is-corrupt version-1 version-1-lawful fresh fresh-writable b []
+
+-- its length
+fresh-length : length (history-of version-1 fresh) ≡ 57961
+unfolding fresh history-length
+fresh-length = length-history version-1 version-1-lawful fresh fresh-writable

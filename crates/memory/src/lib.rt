@@ -1,0 +1,33 @@
+// The lent memory: judged, and cleared.
+mod clear;
+
+pub use clear::clear_counts;
+pub use clear::clear_table;
+use kinds::State;
+ghost use mathlib.Core.Path.{_≡_};
+ghost use Rattle.rules.specs.Board.{base};
+ghost use Rattle.rules.specs.Memory.{lent, sound};
+
+// Whether all of it is sound.
+pub fn judge_memory(
+    state: State,
+    confirmed: &[f64],
+    resolved: &[f64],
+    pending: &[u8],
+    recent: &[u8],
+) -> bool
+    ensures { λ r. ⌜ r ≡ sound base state (lent (now (confirmed .entry)) (now (resolved .entry)) (now (pending .entry)) (now (recent .entry))) ⌝ }
+{
+    let used = state.pending;
+    let kept = state.recent;
+    if !counts::sound_counts(confirmed) {
+        return false;
+    }
+    if !counts::sound_counts(resolved) {
+        return false;
+    }
+    if !passes::judge_pending(pending, used) {
+        return false;
+    }
+    passes::judge_confirmed(recent, kept)
+}
