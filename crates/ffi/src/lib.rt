@@ -64,8 +64,13 @@ pub extern "C" fn izr_tx_entered(
         return 1;
     }
     let given = id_in(id);
-    let entered =
-        estimator::tx_entered(state_in(state), pending, &given, FeeRate(rate), Height(height));
+    let entered = estimator::tx_entered(
+        state_in(state),
+        pending,
+        &given,
+        FeeRate(rate),
+        Height(height),
+    );
     let after = entered.state;
     put_state(state, after);
     let answer = entered.answer;
@@ -174,8 +179,14 @@ pub extern "C" fn izr_to_history_bytes(
     if carried.len() == 0 {
         return 1;
     }
-    let written =
-        history::to_history_bytes(state_in(state), confirmed, resolved, pending, recent, out);
+    let written = estimator::to_history_bytes(
+        state_in(state),
+        confirmed,
+        resolved,
+        pending,
+        recent,
+        out,
+    );
     tell_written(carried, written)
 }
 
@@ -200,6 +211,6 @@ pub extern "C" fn izr_from_history_bytes(
     if carried.len() == 0 {
         return 1;
     }
-    let reading = history::from_history_bytes(bytes, confirmed, resolved, pending, recent);
+    let reading = estimator::from_history_bytes(bytes, confirmed, resolved, pending, recent);
     tell_reading(state, carried, reading)
 }

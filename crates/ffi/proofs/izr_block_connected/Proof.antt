@@ -36,7 +36,7 @@ state-in-requires : tie.Need-state-in-requires
 state-in-requires c κs = held (c .before)
 
 block-connected-requires : tie.Need-block-connected-requires
-block-connected-requires c κs = ?
+block-connected-requires c κs = search needs
 
 put-state-requires : tie.Need-put-state-requires
 put-state-requires c κs = let e = c .before .before .before .before .before .before .before .before .before .before .before .before .before .before .before .before .before in four (now (start e .args .state)) (held e)
@@ -61,7 +61,7 @@ same-length-6 c = search needs
 
 returns-2 : tie.Need-returns-2
 unfolding izr-block-connected
-returns-2 c = 
+returns-2 c =
     let e = c .before .before .before .before .before .before .before .before .before .before .before .before .before .before .before .before .before .before .before .before .before in
     let a = start e .args in
     let same =

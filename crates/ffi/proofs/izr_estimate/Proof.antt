@@ -35,7 +35,7 @@ state-in-requires : tie.Need-state-in-requires
 state-in-requires c κs = held (c .before)
 
 estimate-requires : tie.Need-estimate-requires
-estimate-requires c κs = ?
+estimate-requires c κs = search needs
 
 tell-estimated-requires : tie.Need-tell-estimated-requires
 tell-estimated-requires c κs = search needs
@@ -45,7 +45,7 @@ same-length c = search needs
 
 returns-3 : tie.Need-returns-3
 unfolding izr-estimate
-returns-3 c = 
+returns-3 c =
     let e = c .before .before .before .before .before .before .before in
     let a = start e .args in
     let same = ap (λ (s : State). estimate-call base s (now (a .confirmed)) (now (a .resolved)) (record { 0 = a .target })) (c .before .before .before .before .before .state-in .ensures) in

@@ -21,7 +21,7 @@ unfolding izr-from-history-bytes
 returns-2 c = unfit _ _ _ _ _ (not-second (leb 4 (length (now (start (c .before) .args .state)))) _ (no-word (now (start (c .before) .args .carried)) (c .if2 .taken)))
 
 from-history-bytes-requires : tie.Need-from-history-bytes-requires
-from-history-bytes-requires c κs = ?
+from-history-bytes-requires c κs = search needs
 
 tell-reading-requires : tie.Need-tell-reading-requires
 tell-reading-requires c κs = search needs
@@ -46,7 +46,7 @@ same-length-6 c = search needs
 
 returns-3 : tie.Need-returns-3
 unfolding izr-from-history-bytes
-returns-3 c = 
+returns-3 c =
     let e = c .before .before .before .before .before .before .before .before .before .before .before .before .before .before .before .before .before .before .before .before .before in
     let a = start e .args in
     let told = c .before .before .before .before .tell-reading .ensures in

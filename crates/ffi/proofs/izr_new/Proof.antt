@@ -13,7 +13,7 @@ unfolding izr-new
 returns c = unfit _ _ _ _ _ (lt-leb 4 _ (c .if1 .taken))
 
 new-requires : tie.Need-new-requires
-new-requires c κs = ?
+new-requires c κs = search needs
 
 tell-started-requires : tie.Need-tell-started-requires
 tell-started-requires c κs = search needs
@@ -35,7 +35,7 @@ same-length-5 c = search needs
 
 returns-2 : tie.Need-returns-2
 unfolding izr-new
-returns-2 c = 
+returns-2 c =
     let told = c .before .before .tell-started .ensures in
     let e = c .before .before .before .before .before .before .before .before .before .before .before .before .before .before .before .before .before in
     fits _ _ _ _ _ (le-leb 4 _ (e .if1 .left)) _ (begins (now (e .before .before .before .before .before .before .args .state)) _ _ _ _ (c .before .before .before .before .before .before .before .before .before .before .before .before .new .ensures) [] _ _ _ (told .0) (told .1) (carry-none _))

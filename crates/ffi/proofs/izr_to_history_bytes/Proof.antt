@@ -37,7 +37,7 @@ state-in-requires : tie.Need-state-in-requires
 state-in-requires c κs = held (c .before)
 
 to-history-bytes-requires : tie.Need-to-history-bytes-requires
-to-history-bytes-requires c κs = ?
+to-history-bytes-requires c κs = search needs
 
 tell-written-requires : tie.Need-tell-written-requires
 tell-written-requires c κs = search needs
@@ -50,7 +50,7 @@ same-length-2 c = search needs
 
 returns-3 : tie.Need-returns-3
 unfolding izr-to-history-bytes
-returns-3 c = 
+returns-3 c =
     let e = c .before .before .before .before .before .before .before .before .before .before in
     let a = start e .args in
     let same =

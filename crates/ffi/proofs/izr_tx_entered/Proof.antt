@@ -48,7 +48,7 @@ state-in-requires : tie.Need-state-in-requires
 state-in-requires c κs = held (c .before .before .before)
 
 tx-entered-requires : tie.Need-tx-entered-requires
-tx-entered-requires c κs = ?
+tx-entered-requires c κs = search needs
 
 put-state-requires : tie.Need-put-state-requires
 put-state-requires c κs = let e = c .before .before .before .before .before .before .before .before .before .before .before in four (now (start e .args .state)) (held e)
@@ -64,7 +64,7 @@ same-length-4 c = search needs
 
 returns-3 : tie.Need-returns-3
 unfolding izr-tx-entered
-returns-3 c = 
+returns-3 c =
     let e = c .before .before .before .before .before .before .before .before .before .before .before .before .before .before .before in
     let a = start e .args in
     let call = c .before .before .before .before .before .before .before .before .tx-entered in
