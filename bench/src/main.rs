@@ -1,0 +1,78 @@
+//! One row of the benchmark on one side: `bench original|library ROW count|time|memory`. A row is a call in a state; see `rows.rs`.
+//!
+//! - `count` makes the row's calls once, inside the function `measured`, so that a tool can count the instructions executed there. Prints the number of calls.
+//! - `time` makes them again and again, each time in the same state. Prints the least nanoseconds a call.
+//! - `memory` prints the bytes that the estimator holds before the calls, and the most that were held beside them during the calls.
+
+mod heap;
+mod inputs;
+mod rows;
+mod sides;
+
+use heap::Heap;
+use inputs::History;
+use rows::Row;
+use sides::Estimator;
+use std::env;
+use std::time::Duration;
+
+#[global_allocator]
+static HEAP: Heap = Heap::new();
+
+fn main() {
+    let words: Vec<String> = env::args().skip(1).collect();
+    let words: Vec<&str> = words.iter().map(String::as_str).collect();
+    match words.as_slice() {
+        ["rows"] => rows::all().iter().for_each(|row| println!("{row}")),
+        ["original", row, mode] => run::<original::FeeEstimator>(row, mode),
+        ["library", row, mode] => run::<izrughem::FeeEstimator>(row, mode),
+        _ => {
+            eprintln!("usage: bench rows | bench original|library ROW count|time|memory");
+            std::process::exit(2);
+        }
+    }
+}
+
+fn run<E: Estimator>(row: &str, mode: &str) {
+    let row: Row = row.parse().unwrap_or_else(|error| panic!("{row}: {error}"));
+    let history = row.history();
+    match mode {
+        "count" => {
+            let mut work = row.work::<E>(&history);
+            measured(&mut *work.calls);
+            println!("{}", work.number);
+        }
+        "time" => println!("{:.1}", least_time::<E>(&row, &history)),
+        "memory" => {
+            let held = HEAP.held();
+            let mut work = row.work::<E>(&history);
+            let before = HEAP.held();
+            HEAP.forget_most();
+            measured(&mut *work.calls);
+            println!("{} {}", before - held, HEAP.most() - before);
+        }
+        _ => panic!("{mode} is no mode"),
+    }
+}
+
+/// The calls of a row. A function of its own, under a plain name, for the tools that count what is executed in it.
+#[unsafe(no_mangle)]
+#[inline(never)]
+extern "Rust" fn measured(calls: &mut dyn FnMut()) {
+    calls();
+}
+
+/// The least time of one call, in nanoseconds, over 5 to 50 runs, of half a second together where 50 are enough for that.
+fn least_time<E: Estimator>(row: &Row, history: &History) -> f64 {
+    let (mut spent, mut runs, mut least) = (Duration::ZERO, 0, f64::INFINITY);
+    while runs < 5 || (runs < 50 && spent < Duration::from_millis(500)) {
+        let mut work = row.work::<E>(history);
+        let start = sides::processor_time();
+        measured(&mut *work.calls);
+        let took = sides::processor_time() - start;
+        spent += took;
+        runs += 1;
+        least = least.min(took.as_nanos() as f64 / f64::from(work.number));
+    }
+    least
+}

@@ -1,0 +1,230 @@
+//! The boundary: the functions of `include/izrughem.h`, each behind a function on slices. All `unsafe` code is here.
+//!
+//! Why each call is sound: the library reads and writes nothing but what the pointers and lengths of its slices give it, keeps none of them, and asks nothing
+//! of the values behind them (its functions have no precondition, and each is proved to stay within its slices for all contents). A slice of Rust is aligned,
+//! not null and valid for its length, and those lent as `&mut` overlap no other.
+
+use crate::Txid;
+
+#[cfg(test)]
+mod tests;
+
+/// The state: whether there is a last height, the height, and how many pending and confirmed records are used.
+pub type State = [u64; 4];
+
+unsafe extern "C" {
+    fn izr_new(
+        confirmed: *mut f64,
+        confirmed_len: usize,
+        resolved: *mut f64,
+        resolved_len: usize,
+        pending: *mut u8,
+        pending_len: usize,
+        recent: *mut u8,
+        recent_len: usize,
+        state: *mut u64,
+        state_len: usize,
+    ) -> u32;
+    fn izr_tx_entered(
+        state: *mut u64,
+        state_len: usize,
+        pending: *mut u8,
+        pending_len: usize,
+        id: *const u8,
+        id_len: usize,
+        rate: u64,
+        height: u32,
+    ) -> u32;
+    fn izr_tx_left(state: *mut u64, state_len: usize, pending: *mut u8, pending_len: usize, id: *const u8, id_len: usize) -> u32;
+    fn izr_block_connected(
+        state: *mut u64,
+        state_len: usize,
+        confirmed: *mut f64,
+        confirmed_len: usize,
+        resolved: *mut f64,
+        resolved_len: usize,
+        pending: *mut u8,
+        pending_len: usize,
+        recent: *mut u8,
+        recent_len: usize,
+        ids: *const u8,
+        ids_len: usize,
+        height: u32,
+    ) -> u32;
+    fn izr_estimate(
+        state: *const u64,
+        state_len: usize,
+        confirmed: *const f64,
+        confirmed_len: usize,
+        resolved: *const f64,
+        resolved_len: usize,
+        target: u32,
+        carried: *mut u64,
+        carried_len: usize,
+    ) -> u32;
+    safe fn izr_bucket_index_for_rate(rate: u64) -> u64;
+    fn izr_to_history_bytes(
+        state: *const u64,
+        state_len: usize,
+        confirmed: *const f64,
+        confirmed_len: usize,
+        resolved: *const f64,
+        resolved_len: usize,
+        pending: *const u8,
+        pending_len: usize,
+        recent: *const u8,
+        recent_len: usize,
+        out: *mut u8,
+        out_len: usize,
+        carried: *mut u64,
+        carried_len: usize,
+    ) -> u32;
+    fn izr_from_history_bytes(
+        bytes: *const u8,
+        bytes_len: usize,
+        confirmed: *mut f64,
+        confirmed_len: usize,
+        resolved: *mut f64,
+        resolved_len: usize,
+        pending: *mut u8,
+        pending_len: usize,
+        recent: *mut u8,
+        recent_len: usize,
+        state: *mut u64,
+        state_len: usize,
+        carried: *mut u64,
+        carried_len: usize,
+    ) -> u32;
+}
+
+/// The lent memory of a call that changes it.
+pub struct Lent<'a> {
+    pub confirmed: &'a mut [f64],
+    pub resolved: &'a mut [f64],
+    pub pending: &'a mut [u8],
+    pub recent: &'a mut [u8],
+}
+
+pub fn new(state: &mut State, lent: Lent<'_>) -> u32 {
+    // SAFETY: five `&mut` slices, each with its own length.
+    unsafe {
+        izr_new(
+            lent.confirmed.as_mut_ptr(),
+            lent.confirmed.len(),
+            lent.resolved.as_mut_ptr(),
+            lent.resolved.len(),
+            lent.pending.as_mut_ptr(),
+            lent.pending.len(),
+            lent.recent.as_mut_ptr(),
+            lent.recent.len(),
+            state.as_mut_ptr(),
+            state.len(),
+        )
+    }
+}
+
+pub fn tx_entered(state: &mut State, pending: &mut [u8], id: &Txid, rate: u64, height: u32) -> u32 {
+    let id = id.as_bytes();
+    // SAFETY: two `&mut` slices and a `&`, each with its own length.
+    unsafe { izr_tx_entered(state.as_mut_ptr(), state.len(), pending.as_mut_ptr(), pending.len(), id.as_ptr(), id.len(), rate, height) }
+}
+
+pub fn tx_left(state: &mut State, pending: &mut [u8], id: &Txid) -> u32 {
+    let id = id.as_bytes();
+    // SAFETY: two `&mut` slices and a `&`, each with its own length.
+    unsafe { izr_tx_left(state.as_mut_ptr(), state.len(), pending.as_mut_ptr(), pending.len(), id.as_ptr(), id.len()) }
+}
+
+pub fn block_connected(state: &mut State, lent: Lent<'_>, ids: &[Txid], height: u32) -> u32 {
+    // SAFETY: five `&mut` slices and a `&`, each with its own length; a `Txid` is its 32 bytes (`repr(transparent)`), so the list is as many times 32 bytes.
+    unsafe {
+        izr_block_connected(
+            state.as_mut_ptr(),
+            state.len(),
+            lent.confirmed.as_mut_ptr(),
+            lent.confirmed.len(),
+            lent.resolved.as_mut_ptr(),
+            lent.resolved.len(),
+            lent.pending.as_mut_ptr(),
+            lent.pending.len(),
+            lent.recent.as_mut_ptr(),
+            lent.recent.len(),
+            ids.as_ptr().cast(),
+            size_of_val(ids),
+            height,
+        )
+    }
+}
+
+pub fn estimate(state: &State, confirmed: &[f64], resolved: &[f64], target: u32, carried: &mut u64) -> u32 {
+    // SAFETY: three `&` slices and a `&mut` word, each with its own length.
+    unsafe {
+        izr_estimate(
+            state.as_ptr(),
+            state.len(),
+            confirmed.as_ptr(),
+            confirmed.len(),
+            resolved.as_ptr(),
+            resolved.len(),
+            target,
+            carried,
+            1,
+        )
+    }
+}
+
+pub fn bucket_index_for_rate(rate: u64) -> u64 {
+    izr_bucket_index_for_rate(rate)
+}
+
+pub fn to_history_bytes(
+    state: &State,
+    confirmed: &[f64],
+    resolved: &[f64],
+    pending: &[u8],
+    recent: &[u8],
+    out: &mut [u8],
+    carried: &mut u64,
+) -> u32 {
+    // SAFETY: five `&` slices, a `&mut` slice and a `&mut` word, each with its own length.
+    unsafe {
+        izr_to_history_bytes(
+            state.as_ptr(),
+            state.len(),
+            confirmed.as_ptr(),
+            confirmed.len(),
+            resolved.as_ptr(),
+            resolved.len(),
+            pending.as_ptr(),
+            pending.len(),
+            recent.as_ptr(),
+            recent.len(),
+            out.as_mut_ptr(),
+            out.len(),
+            carried,
+            1,
+        )
+    }
+}
+
+pub fn from_history_bytes(bytes: &[u8], lent: Lent<'_>, state: &mut State, carried: &mut u64) -> u32 {
+    // SAFETY: a `&` slice, five `&mut` slices and a `&mut` word, each with its own length.
+    unsafe {
+        izr_from_history_bytes(
+            bytes.as_ptr(),
+            bytes.len(),
+            lent.confirmed.as_mut_ptr(),
+            lent.confirmed.len(),
+            lent.resolved.as_mut_ptr(),
+            lent.resolved.len(),
+            lent.pending.as_mut_ptr(),
+            lent.pending.len(),
+            lent.recent.as_mut_ptr(),
+            lent.recent.len(),
+            state.as_mut_ptr(),
+            state.len(),
+            carried,
+            1,
+        )
+    }
+}

@@ -1,0 +1,3 @@
+-- What the proofs of several functions use, and what follows for callers.
+mod Words
+mod Calls

@@ -1,0 +1,152 @@
+/*
+ * Izrughem: a bitcoin fee estimator over memory that the caller lends. C11.
+ *
+ * Every slice is a pointer and the number of its elements. The pointer is never null, is aligned for its elements, and has that many elements behind it
+ * (with 0 elements any aligned pointer but null will do); the slices of one call do not overlap. Nothing is kept between calls: an estimator is its state
+ * (four words) and its four lent slices, and a call is given all that the call before left. Calls on different estimators may run at the same time.
+ * No call allocates, fails or waits.
+ *
+ *   confirmed, resolved   counts, IZR_COUNTS doubles each
+ *   pending               the table of pending transactions, IZR_PENDING_SIZE bytes a record, at most IZR_MOST_PENDING records
+ *   recent                the table of confirmed transactions of recent blocks, IZR_RECENT_SIZE bytes a record, at most IZR_MOST_RECENT records
+ *   state                 IZR_STATE_WORDS words: 1 or 0 for whether there is a last height, the height (0 where there is none), and how many pending and
+ *                         how many confirmed records are used
+ *
+ * A table has room for as many records as its slice holds, up to its most. What is lent beyond all that is neither read nor written.
+ *
+ * Each call answers one of the numbers below, and its comment says which: IZR_DONE, or a refusal. A refused call changes nothing that it was lent, but for
+ * carried[0] where its comment says so. Where more than one refusal would be right, the one that is named first is answered.
+ *
+ * IZR_DAMAGED tells that the memory is not an estimator's. Each call judges what it uses: a count slice shorter than IZR_COUNTS; a count that is not finite
+ * or is below 0; more records used than there is room for; ids that do not rise strictly; a bucket above 141; a resolved-through above 25; an unused place
+ * that is not zero; a state of fewer than four words, with a first word above 1, with a height above 32 bits, or with a height though the first word is 0; an
+ * id that is not IZR_ID_SIZE bytes; a carried of no words.
+ */
+#ifndef IZRUGHEM_H
+#define IZRUGHEM_H
+
+#include <stddef.h>
+#include <stdint.h>
+
+#ifdef __cplusplus
+extern "C" {
+#endif
+
+enum {
+    IZR_COUNTS = 3550,
+    IZR_PENDING_SIZE = 44,
+    IZR_RECENT_SIZE = 36,
+    IZR_MOST_PENDING = 10000,
+    IZR_MOST_RECENT = 1000000,
+    IZR_STATE_WORDS = 4,
+    IZR_ID_SIZE = 32,
+    IZR_WIDEST_GAP = 4096,
+    IZR_MOST_TARGET = 25,
+    /* The length of a history is this, plus 4 with a last height, plus IZR_PENDING_SIZE and IZR_RECENT_SIZE for each record. */
+    IZR_HISTORY_SIZE = 57961
+};
+
+/* The answers. */
+enum {
+    IZR_DONE = 0,
+    IZR_DAMAGED = 1,
+    IZR_ALREADY_PENDING = 2,
+    IZR_PENDING_FULL = 3,
+    IZR_ABSENT = 4,
+    IZR_BAD_LIST = 5,
+    IZR_GAP_TOO_WIDE = 6,
+    IZR_CONFIRMED_FULL = 7,
+    IZR_BAD_MAGIC = 8,
+    IZR_UNKNOWN_VERSION = 9,
+    IZR_CORRUPT = 10,
+    IZR_NO_ROOM = 11,
+    IZR_SHORT_OUTPUT = 12
+};
+
+/*
+ * A fresh start: counts become 0.0, both tables are cleared, and there is no last height. The memory may hold anything before.
+ *
+ *   IZR_DONE
+ *   IZR_DAMAGED          a count slice is too short, or the state has fewer than four words
+ */
+uint32_t izr_new(double *confirmed, size_t confirmed_len, double *resolved, size_t resolved_len, uint8_t *pending, size_t pending_len,
+                 uint8_t *recent, size_t recent_len, uint64_t *state, size_t state_len);
+
+/*
+ * A transaction enters the mempool at a height, with a fee rate in satoshi per kvB. It judges the state, the id and the pending table.
+ *
+ *   IZR_DONE
+ *   IZR_DAMAGED
+ *   IZR_ALREADY_PENDING  the id is pending
+ *   IZR_PENDING_FULL     the pending table has no unused place
+ */
+uint32_t izr_tx_entered(uint64_t *state, size_t state_len, uint8_t *pending, size_t pending_len, const uint8_t *id, size_t id_len,
+                        uint64_t rate, uint32_t height);
+
+/*
+ * A transaction leaves the mempool unconfirmed. It judges the state, the id and the pending table.
+ *
+ *   IZR_DONE
+ *   IZR_DAMAGED
+ *   IZR_ABSENT           the id is not pending
+ */
+uint32_t izr_tx_left(uint64_t *state, size_t state_len, uint8_t *pending, size_t pending_len, const uint8_t *id, size_t id_len);
+
+/*
+ * A block is connected, with the ids that it confirms, IZR_ID_SIZE bytes each, one after the other. It judges the state and all memory.
+ *
+ *   IZR_DONE
+ *   IZR_DAMAGED
+ *   IZR_BAD_LIST         the length of ids is not a multiple of IZR_ID_SIZE
+ *   IZR_GAP_TOO_WIDE     the height is more than IZR_WIDEST_GAP above the last one. Blocks of no ids, at most that far apart, lead over a wider gap with
+ *                        the same result
+ *   IZR_CONFIRMED_FULL   the confirmed records, and the listings of ids that are pending (each listing counted), are more than the table of confirmed
+ *                        records has room for. Lend a longer one, with zeros behind the old bytes, and call again
+ */
+uint32_t izr_block_connected(uint64_t *state, size_t state_len, double *confirmed, size_t confirmed_len, double *resolved, size_t resolved_len,
+                             uint8_t *pending, size_t pending_len, uint8_t *recent, size_t recent_len, const uint8_t *ids, size_t ids_len,
+                             uint32_t height);
+
+/*
+ * The lowest rate at which a transaction is confirmed within so many blocks. Target 0 has none; above IZR_MOST_TARGET means IZR_MOST_TARGET. It judges the
+ * state, the counts and carried.
+ *
+ *   IZR_DONE             carried[0] is the rate in satoshi per kvB, or 0 where there is none (a rate is never 0)
+ *   IZR_DAMAGED
+ */
+uint32_t izr_estimate(const uint64_t *state, size_t state_len, const double *confirmed, size_t confirmed_len, const double *resolved,
+                      size_t resolved_len, uint32_t target, uint64_t *carried, size_t carried_len);
+
+/* The bucket, from 0 to 141, that a rate belongs to. It answers the bucket's number. */
+uint64_t izr_bucket_index_for_rate(uint64_t rate);
+
+/*
+ * Writes the history file into out; out past its length is untouched. It judges the state, all memory and carried.
+ *
+ *   IZR_DONE             carried[0] is how many bytes were written
+ *   IZR_DAMAGED
+ *   IZR_SHORT_OUTPUT     carried[0] is how many bytes out must have
+ */
+uint32_t izr_to_history_bytes(const uint64_t *state, size_t state_len, const double *confirmed, size_t confirmed_len, const double *resolved,
+                              size_t resolved_len, const uint8_t *pending, size_t pending_len, const uint8_t *recent, size_t recent_len,
+                              uint8_t *out, size_t out_len, uint64_t *carried, size_t carried_len);
+
+/*
+ * Reads a history file. The memory may hold anything before; refused, it is left as it is.
+ *
+ *   IZR_DONE
+ *   IZR_DAMAGED          a count slice is too short, the state has fewer than four words, or carried has none
+ *   IZR_BAD_MAGIC        the first eight bytes are there, and are not a history's
+ *   IZR_UNKNOWN_VERSION  carried[0] is the version
+ *   IZR_CORRUPT          the bytes are no history file
+ *   IZR_NO_ROOM          a table of the file has more records, repeats counted, than there is room for
+ */
+uint32_t izr_from_history_bytes(const uint8_t *bytes, size_t bytes_len, double *confirmed, size_t confirmed_len, double *resolved,
+                                size_t resolved_len, uint8_t *pending, size_t pending_len, uint8_t *recent, size_t recent_len, uint64_t *state,
+                                size_t state_len, uint64_t *carried, size_t carried_len);
+
+#ifdef __cplusplus
+}
+#endif
+
+#endif
