@@ -1,0 +1,31 @@
+// The records of a file, in any order and with repeats, settled in a table: ids rising, and of a repeated id the last record.
+mod once;
+mod renew;
+mod shell;
+
+ghost use mathlib.Core.Path.{_≡_};
+ghost use mathlib.Core.List.{[]};
+ghost use Prim.Native.Nat.{_*_, _≤_};
+ghost use lib.ListN.{length};
+ghost use Rattle.rules.specs.Records.{records, id-of, laid};
+ghost use Rattle.format.specs.File.{settled};
+
+// The first `n` records of `src` come to stand in `table`, with zeros up to `room` places. The answer is how many there are then.
+// Where their ids rise they are copied. Else the ids are sorted and each kept once, and then each record of `src`, in turn, is put where its id stands.
+pub fn settle(table: &mut [u8], src: &[u8], size: usize, n: usize, room: usize) -> usize
+    requires { ⌜ (32 ≤ size) × ((n ≤ room) × ((n * size ≤ length (now src)) × (room * size ≤ length (now table)))) ⌝ }
+    requires { ⌜ size ≤ 64 ⌝ }
+    ensures { λ r. ⌜ r ≡ length (settled id-of [] (records size n (now (src .entry)))) ⌝ }
+    ensures { λ _. ⌜ now (table .exit) ≡ laid size room (settled id-of [] (records size n (now (src .entry)))) (now (table .entry)) ⌝ }
+{
+    words::put_bytes(table, 0, &src[..n * size]);
+    if table::ids_rise(table, size, n) {
+        words::zero(table, n * size, room * size);
+        return n;
+    }
+    shell::sort(table, size, n);
+    let k = once::drop_repeats(table, size, n);
+    words::zero(table, k * size, room * size);
+    renew::renew_all(table, src, size, k, n);
+    k
+}
