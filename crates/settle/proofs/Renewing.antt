@@ -1,12 +1,12 @@
 -- The loop that puts each record of a file where its id stands: as every id stands there already, placing a record leaves the ids as they are. Assumes nothing.
 use mathlib.Core.Path.{_≡_, refl, sym, ap, _∙_}
-use mathlib.Core.Bool.{Bool, true, false, _||_, true≢false}
+use mathlib.Core.Bool.{Bool, true, _||_, true≢false}
 use mathlib.Core.List.{List, [], _∷_, map}
 use Prim.Native.Nat.{ℕ, zero, suc, _+_, _*_, _-_, _≤_, _<_, zero-le}
 use native.Mathlib.Nat.{not-suc-le-zero, le-of-suc-le-suc, zero-add}
 use native.Mathlib.Numerals.{add-one}
 use native.Mathlib.Omega.{arith}
-use lib.ListN.{length, take, drop, getD, set, length-set, length-map, drop-of-length-le}
+use lib.ListN.{length, take, drop, getD, set, length-set, drop-of-length-le}
 use lib.Seq.{drop-cons, set-getD}
 use Rattle.rules.specs.Lists.{any, every}
 use Rattle.rules.specs.Ids.{Id, same, rising, placed, dropped}
@@ -44,7 +44,7 @@ module _ (q : List ℕ) (rs : List (List ℕ)) (up : rising (map id-of rs) ≡ t
       ap (map id-of) (sym placed-is) ∙ map-set id-of at q rs
       ∙ ap (set (map id-of rs) at) (sym (at-told (id-of q) (map id-of rs) at (stands q rs up there .1) .is)) ∙ set-getD (map id-of rs) at []
 
-  pub placed-sized : (size : ℕ) → length q ≡ size → Sized size rs → Sized size (placed id-of q rs)
+  placed-sized : (size : ℕ) → length q ≡ size → Sized size rs → Sized size (placed id-of q rs)
   placed-sized size l s = rw (← placed-is) (sized-set size at q rs l s)
 
   pub placed-long : length (placed id-of q rs) ≡ length rs

@@ -1,7 +1,7 @@
 -- Records placed one after the other: what stood in the table before does not show, if each of its ids is among those placed. For a record that will be replaced
 -- may go first. Assumes nothing.
 use mathlib.Core.Path.{_≡_, refl, sym, ap, _∙_}
-use mathlib.Core.Bool.{Bool, true, false, not, cond, _&&_, _||_}
+use mathlib.Core.Bool.{Bool, true, false, not, cond, _||_}
 use mathlib.Core.List.{List, [], _∷_}
 use Rattle.rules.specs.Lists.{any, keep, insert}
 use Rattle.rules.specs.Ids.{Id, same, below, dropped, placed}

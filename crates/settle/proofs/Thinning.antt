@@ -2,12 +2,12 @@
 use mathlib.Core.Path.{_≡_, refl, sym, ap, _∙_}
 use mathlib.Core.Bool.{Bool, true, false, not, cond}
 use mathlib.Core.List.{List, [], _∷_, _++_, append-nil, append-assoc}
-use Prim.Native.Nat.{ℕ, zero, suc, _+_, _*_, _-_, _≤_, _<_}
-use native.Mathlib.Nat.{zero-mul, suc-mul, zero-add}
+use Prim.Native.Nat.{ℕ, suc, _+_, _*_, _-_, _≤_, _<_}
+use native.Mathlib.Nat.{zero-mul}
 use native.Mathlib.Numerals.{add-one}
 use native.Mathlib.Omega.{arith}
 use lib.ListN.{length, take, drop, getD, length-append, take-append-drop, drop-of-length-le}
-use lib.Seq.{drop-cons, drop-drop, take-take, getD-at, length-take-le}
+use lib.Seq.{drop-cons, drop-drop, getD-at}
 use Rattle.seqs.proofs.Part.{next-part}
 use Rattle.rules.specs.Ids.{Id, same}
 use Rattle.rules.specs.Records.{records, joined, id-of}
@@ -87,7 +87,7 @@ module _ (size used : ℕ) (xs : List ℕ) (room : used * size ≤ length xs) wh
 
   module _ (a b : List ℕ) (k i r : ℕ) (t : Thinning size used xs a k i) where
     -- the id that the next one is held against
-    pub last-id : 32 ≤ size → id32 ((k - 1) * size) a ≡ id-of (getD (t .kept) (k - 1) [])
+    last-id : 32 ≤ size → id32 ((k - 1) * size) a ≡ id-of (getD (t .kept) (k - 1) [])
     last-id h =
         sym (id-at size k (k - 1) a h (omega (arith, t .some)))
         ∙ ap (λ (ks : List (List ℕ)). id-of (getD ks (k - 1) [])) (front-records size k (t .kept) a (t .sized) (t .count) (t .front))

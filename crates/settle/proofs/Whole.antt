@@ -1,29 +1,29 @@
 -- The whole way: copied, sorted, each id once, and each record of the file put where its id stands. A sort loses no id and drops none, so the ids that stand there
 -- are those of the file, and what stands with them is replaced. Assumes nothing.
 use mathlib.Core.Path.{_≡_, refl, sym, ap, _∙_}
-use mathlib.Core.Bool.{Bool, true, false, _||_, true≢false}
+use mathlib.Core.Bool.{Bool, true, false, _||_}
 use mathlib.Core.List.{List, [], _∷_, _++_, map, append-assoc}
-use Prim.Native.Nat.{ℕ, suc, _+_, _*_, _-_, _≤_, _<_}
-use native.Mathlib.Nat.{mul-le-mul-right, zero-add, sub-self}
+use Prim.Native.Nat.{ℕ, _+_, _*_, _-_, _≤_}
+use native.Mathlib.Nat.{mul-le-mul-right, zero-add}
 use native.Mathlib.Omega.{arith}
 use lib.Dec.{ltb}
-use lib.ListN.{length, take, drop, replicate, length-map, length-append, length-drop}
-use lib.Seq.{sets, sets-eq, take-at, drop-at, drop-drop, length-take-le}
+use lib.ListN.{length, take, drop, replicate}
+use lib.Seq.{sets, sets-eq, drop-at, drop-drop, length-take-le}
 use borrow.Author.Tests.{lt-ltb}
 use Rattle.rules.specs.Lists.{bit, count, any, every}
 use Rattle.rules.specs.Ids.{Id, same, rising, placed}
 use Rattle.rules.specs.Records.{records, joined, laid, id-of}
 use Rattle.rules.proofs.All.{All, none, more}
 use Rattle.rules.proofs.Ids.{Up, same-eq, same-refl, rising-of}
-use Rattle.rules.proofs.Records.{Sized, and-left, and-right, length-records, sized-records, joined-records, length-joined, laid-records, laid-beyond, laid-length}
+use Rattle.rules.proofs.Records.{Sized, and-left, and-right, length-records, sized-records, joined-records, length-joined, laid-records, laid-beyond}
 use Rattle.format.specs.File.{settled}
 use Rattle.format.proofs.Back.{all-imply}
 use Rattle.format.proofs.Order.{settled-rising}
 use Rattle.words.specs.Moves.{zeroed}
 use Rattle.table.proofs.Laid.{laid-full, laid-more}
-use Rattle.table.proofs.Holding.{Holds, holds-length, holds-records}
+use Rattle.table.proofs.Holding.{Holds, holds-records}
 use Rattle.settle.specs.Shell.{Shuffled, Sorted}
-use Rattle.settle.specs.Once.{once-after, once, Kept}
+use Rattle.settle.specs.Once.{once, Kept}
 use Rattle.settle.proofs.Distinct.{up-once, has-once, sized-once, length-once}
 use Rattle.settle.proofs.Settling.{settled-over}
 use Rattle.settle.proofs.Renewing.{any-ids, placed-ids, placed-long}
@@ -81,11 +81,11 @@ module _ (rs qs : List (List ℕ)) (s : Shuffled rs qs) where
   same-ids i = has-once i qs ∙ any-count (λ r. same (id-of r) i) qs ∙ ap (ltb 0) (s .counts (λ r. same (id-of r) i)) ∙ sym (any-count (λ r. same (id-of r) i) rs)
 
   -- each id of the file stands there
-  pub all-there : every (λ q. any (λ r. same (id-of r) (id-of q)) (once qs)) rs ≡ true
+  all-there : every (λ q. any (λ r. same (id-of r) (id-of q)) (once qs)) rs ≡ true
   all-there = every-of (λ q. has (id-of q) (once qs)) (all-imply (λ t h. same-ids (id-of t) ∙ h) (owns rs))
 
   -- and no other does
-  pub none-else : All (λ t. any (λ r. same (id-of t) (id-of r)) rs ≡ true) (once qs)
+  none-else : All (λ t. any (λ r. same (id-of t) (id-of r)) rs ≡ true) (once qs)
   none-else = all-imply (λ t h. sym (any-turned (id-of t) rs) ∙ sym (same-ids (id-of t)) ∙ h) (owns (once qs))
 
 -- records placed where their ids stand
@@ -173,11 +173,11 @@ module _ (size places n : ℕ) (xs file : List ℕ) (fit : n ≤ places) (room :
           cut c ∙ ap (drop (places * size - n * size)) (t .beyond ∙ s .beyond ∙ f) ∙ sym (cut xs)
 
       module _ (d : List ℕ) (e : d ≡ zeroed (k * size) (places * size) c) where
-        pub once-bytes : d ≡ laid size places table xs
+        once-bytes : d ≡ laid size places table xs
         unfolding zeroed laid
         once-bytes = e ∙ rw (t .front, beyond, t .count)
 
-        pub once-records : records size k d ≡ table
+        once-records : records size k d ≡ table
         once-records = ap (records size k) once-bytes ∙ ap (λ (m : ℕ). records size m (laid size places table xs)) (t .count) ∙ laid-records size places table xs sized
 
         pub once-up : rising (map id-of (records size k d)) ≡ true

@@ -1,7 +1,6 @@
 -- `settle::drop_repeats` meets its contract. The invariant: those kept so far, and what the rest will add, are what all of them come to.
 -- Assumes nothing.
-use mathlib.Core.Path.{_≡_, refl, sym, _∙_}
-use Prim.Native.Nat.{_*_, _-_, _≤_}
+use Prim.Native.Nat.{_-_}
 use native.Mathlib.Omega.{arith}
 use denote.Ref.{now}
 use Rattle.table.proofs.Records.{record-end}

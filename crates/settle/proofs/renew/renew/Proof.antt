@@ -10,8 +10,7 @@ use borrow.Author.Needs.{needs}
 use denote.Ref.{now}
 use Rattle.rules.specs.Records.{records, id-of}
 use Rattle.table.specs.Search.{find-in}
-use Rattle.table.specs.declared.Found.{Found}
-use Rattle.table.specs.declared.Found.the-variants.{At, Gap}
+use Rattle.table.specs.declared.Found.the-variants.{At}
 use Rattle.table.proofs.Records.{record-end}
 use Rattle.table.proofs.View.{gap-any}
 use Rattle.table.proofs.Placed.{at-within, at-bytes}
