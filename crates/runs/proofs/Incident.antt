@@ -1,5 +1,5 @@
 -- The incident as a life: a history with a greater last height is read, and from then on the stored counts are not what the log makes, though its
--- blocks rise. The reading is accepted, since what was written is read, and leaves what crate `meaning` calls restored. Assumes nothing.
+-- blocks rise. The reading is accepted, since what was written is read, and leaves what `Needed` calls restored. Assumes nothing.
 use mathlib.Core.Path.{_≡_, refl, ap, _∙_, subst}
 use mathlib.Core.Bool.{false}
 use mathlib.Core.List.{List, [], _∷_, map}
@@ -18,8 +18,8 @@ use Rattle.format.specs.Calls.{has-room, taken-in, read-call}
 use Rattle.format.proofs.Back.{Writable, version-1-lawful, written-is-read}
 use Rattle.meaning.specs.Runs.{begin, singly, Call, Held, after, after-all, started}
 use Rattle.meaning.specs.Fates.{Meant}
-use Rattle.meaning.proofs.Witness.{dirty}
-use Rattle.meaning.proofs.Needed.{restored, next-block, incident, incident-is-not-meant as not-meant}
+use Rattle.runs.proofs.Witness.{dirty}
+use Rattle.runs.proofs.Needed.{restored, next-block, incident, incident-is-not-meant as not-meant}
 use Rattle.runs.specs.Lives.{Ask, change, read, Life, begun, next, lives}
 
 -- an estimator that is empty but for its last height
@@ -40,13 +40,13 @@ writable =
       recent = none;
     }
 
--- its history is read, and what the caller has then is what crate `meaning` calls restored
+-- its history is read, and what the caller has then is what `Needed` calls restored
 old-is-read : read-call version-1 base dirty (history-of version-1 old) ≡ accepted base old dirty
 unfolding read-call taken-in has-room settled-tables settled lay
 old-is-read = ap (taken-in base dirty) (written-is-read version-1 version-1-lawful old writable)
 
 abbrev having : Held → Life
-having x = record { fresh = false; held = x }
+having x = record { is-fresh = false; held = x }
 
 -- a caller who lends dirty memory and has called nothing yet
 abbrev before : Life

@@ -21,7 +21,7 @@ use Rattle.meaning.specs.Runs.{Rising, Call, started}
 use Rattle.meaning.proofs.Leading.{Comes, comes-start, comes-after}
 use Rattle.meaning.proofs.Meaning.{meant}
 use Rattle.meaning.proofs.Answered.{answers-of}
-use Rattle.runs.specs.Lives.{Ask, start, change, estimate, write, read, Life, goes-on, begun, next, lives, TypedAsk, AllTyped, Aside, AsidePromise, Lived, LifePromise}
+use Rattle.runs.specs.Lives.{Ask, start, change, estimate, write, read, Life, goes-on, begun, next, lives, TypedAsk, TypedAsks, Aside, AsidePromise, Lived, LifePromise}
 
 -- ---- what changes nothing
 
@@ -56,7 +56,7 @@ aside-promise v k (read file) y e = same-life _ _ _ y (read-refused v k (y .held
 
 -- of a run that did not begin with a fresh start nothing is said; one that did is a run of crate `meaning`
 data Known (k : Board) (y : Life) : Type 0 where
-  other : y .fresh ≡ false → Known k y
+  other : y .is-fresh ≡ false → Known k y
   known : (m : Lent) → Comes k m (y .held) → Known k y
 
 start-is-done : (k : Board) (m : Lent) → eqb (start-call k m .answer .number) 0 ≡ true → start-call k m .answer ≡ done
@@ -103,12 +103,12 @@ module _ (v : Version) (k : Board) (law : Lawful k) where
   known-next (write out) y t n = subst (Known k) (sym (aside-promise v k (write out) y tt)) n
   known-next (read file) y t n = known-read file y n
 
-  known-lives : (qs : List Ask) (y : Life) → AllTyped qs → Known k y → Known k (lives v k qs y)
-  unfolding lives AllTyped
+  known-lives : (qs : List Ask) (y : Life) → TypedAsks qs → Known k y → Known k (lives v k qs y)
+  unfolding lives TypedAsks
   known-lives [] y t n = n
   known-lives (q ∷ qs) y t n = known-lives qs (next v k q y) (t .1) (known-next q y (t .0) n)
 
-  lived : Factor (k .decay) → (y : Life) → Known k y → y .fresh ≡ true → Rising (y .held .log) → Lived k (y .held)
+  lived : Factor (k .decay) → (y : Life) → Known k y → y .is-fresh ≡ true → Rising (y .held .log) → Lived k (y .held)
   lived d y (other e) f r = absurd (true≢false (sym f ∙ e))
   lived d y (known m c) f r = record { meant = meant k law m (y .held) c r; answered = answers-of k law d m (y .held) c r }
 

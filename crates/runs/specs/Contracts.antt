@@ -22,7 +22,7 @@ use Rattle.rules.specs.Calls.{outcome, start-call, enter-call, leave-call, bloc
 use Rattle.format.specs.File.{Version}
 use Rattle.format.specs.Calls.{output, write-call, read-call}
 use Rattle.meaning.specs.Runs.{Rising, enter, leave, connect, with-table, noted}
-use Rattle.runs.specs.Lives.{Ask, start, change, estimate, write, read, Life, goes-on, begun, AllTyped, Lived}
+use Rattle.runs.specs.Lives.{Ask, start, change, estimate, write, read, Life, holding, goes-on, begun, TypedAsks, Lived}
 
 -- The calls asked in turn, from the life m, and the life that they led to.
 pub data Ran (v : Version) (k : Board) (m : Life) : List Ask → Life → Type 0 where
@@ -33,14 +33,14 @@ pub data Ran (v : Version) (k : Board) (m : Life) : List Ask → Life → Type 0
   entered : {qs : List Ask} {y : Life} → Ran v k m qs y → (i : Id) (rate : FeeRate) (h : Height) (r : Entered) (pending : List ℕ)
       → outcome (enter-answer (r .answer)) (r .state) pending ≡ enter-call k (y .held .state) (y .held .memory .pending) i rate h
       → Ran v k m (qs ++ change (enter i rate h) ∷ [])
-      (record { fresh = y .fresh; held = noted (enter i rate h) (with-table (y .held .memory) (outcome (enter-answer (r .answer)) (r .state) pending)) (y .held .log) })
+      (holding y (noted (enter i rate h) (with-table (y .held .memory) (outcome (enter-answer (r .answer)) (r .state) pending)) (y .held .log)))
   left : {qs : List Ask} {y : Life} → Ran v k m qs y → (i : Id) (r : Left) (pending : List ℕ)
       → outcome (leave-answer (r .answer)) (r .state) pending ≡ leave-call k (y .held .state) (y .held .memory .pending) i
       → Ran v k m (qs ++ change (leave i) ∷ [])
-      (record { fresh = y .fresh; held = noted (leave i) (with-table (y .held .memory) (outcome (leave-answer (r .answer)) (r .state) pending)) (y .held .log) })
+      (holding y (noted (leave i) (with-table (y .held .memory) (outcome (leave-answer (r .answer)) (r .state) pending)) (y .held .log)))
   connected : {qs : List Ask} {y : Life} → Ran v k m qs y → (ids : List ℕ) (h : Height) (r : Connected) (l : Lent)
       → outcome (block-answer (r .answer)) (r .state) l ≡ block-call k (y .held .state) (y .held .memory) ids h
-      → Ran v k m (qs ++ change (connect ids h) ∷ []) (record { fresh = y .fresh; held = noted (connect ids h) (outcome (block-answer (r .answer)) (r .state) l) (y .held .log) })
+      → Ran v k m (qs ++ change (connect ids h) ∷ []) (holding y (noted (connect ids h) (outcome (block-answer (r .answer)) (r .state) l) (y .held .log)))
   estimated : {qs : List Ask} {y : Life} → Ran v k m qs y → (target : Blocks) (r : Estimated)
       → estimate-answer r ≡ estimate-call k (y .held .state) (y .held .memory .confirmed) (y .held .memory .resolved) target
       → Ran v k m (qs ++ estimate target ∷ []) y
@@ -53,4 +53,4 @@ pub data Ran (v : Version) (k : Board) (m : Life) : List Ask → Life → Type 0
 
 -- Demand 3 of whatever meets the contracts: if the run that stands began with a fresh start and its accepted blocks rise.
 unfoldable pub CodePromise : Version → Board → Type 0
-CodePromise v k = (m : Life) → m .fresh ≡ false → (qs : List Ask) (y : Life) → Ran v k m qs y → AllTyped qs → y .fresh ≡ true → Rising (y .held .log) → Lived k (y .held)
+CodePromise v k = (m : Life) → m .is-fresh ≡ false → (qs : List Ask) (y : Life) → Ran v k m qs y → TypedAsks qs → y .is-fresh ≡ true → Rising (y .held .log) → Lived k (y .held)

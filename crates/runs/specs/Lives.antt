@@ -27,16 +27,20 @@ pub data Ask : Type 0 where
 
 -- what a caller has, and whether the run that stands began with a fresh start
 pub record Life : Type 0 where
-  pub fresh : Bool
+  pub is-fresh : Bool
   pub held : Held
 
--- the same run, with this state and memory
+-- the same run, and what the caller has now
+abbrev pub holding : Life → Held → Life
+holding y x = record { is-fresh = y .is-fresh; held = x }
+
+-- with this state and memory, and the log as it was
 abbrev pub goes-on : Life → State → Lent → Life
-goes-on y s m = record { fresh = y .fresh; held = record { state = s; memory = m; log = y .held .log } }
+goes-on y s m = holding y (record { state = s; memory = m; log = y .held .log })
 
 -- another run
 abbrev pub begins : Bool → State → Lent → Life
-begins f s m = record { fresh = f; held = record { state = s; memory = m; log = begin } }
+begins f s m = record { is-fresh = f; held = record { state = s; memory = m; log = begin } }
 
 -- after a fresh start (true) or a reading (false): another run if it is answered 0, and otherwise the one before, with the state it had before
 unfoldable pub begun : Bool → Outcome Lent → Life → Life
@@ -45,7 +49,7 @@ begun f o y = cond (eqb (o .answer .number) 0) (begins f (o .state) (o .lent)) (
 -- what a caller has after a call
 unfoldable pub next : Version → Board → Ask → Life → Life
 next v k start y = begun true (start-call k (y .held .memory)) y
-next v k (change c) y = record { fresh = y .fresh; held = after k c (y .held) }
+next v k (change c) y = holding y (after k c (y .held))
 next v k (estimate target) y = y
 next v k (write out) y = goes-on y (write-call v k (y .held .state) (y .held .memory) out .state) (y .held .memory)
 next v k (read file) y = begun false (read-call v k (y .held .memory) file) y
@@ -64,9 +68,9 @@ TypedAsk (write out) = Unit {0}
 TypedAsk (read file) = Unit {0}
 
 -- of each call
-unfoldable pub AllTyped : List Ask → Type 0
-AllTyped [] = Unit {0}
-AllTyped (q ∷ qs) = TypedAsk q × AllTyped qs
+unfoldable pub TypedAsks : List Ask → Type 0
+TypedAsks [] = Unit {0}
+TypedAsks (q ∷ qs) = TypedAsk q × TypedAsks qs
 
 -- ---- estimates, writes, and readings and fresh starts that are refused stand anywhere and change nothing
 
@@ -88,4 +92,4 @@ pub record Lived (k : Board) (x : Held) : Type 0 where
   pub answered : Answered k (singly (x .log)) x
 
 unfoldable pub LifePromise : Version → Board → Type 0
-LifePromise v k = (m : Life) → m .fresh ≡ false → (qs : List Ask) → AllTyped qs → let y = lives v k qs m in y .fresh ≡ true → Rising (y .held .log) → Lived k (y .held)
+LifePromise v k = (m : Life) → m .is-fresh ≡ false → (qs : List Ask) → TypedAsks qs → let y = lives v k qs m in y .is-fresh ≡ true → Rising (y .held .log) → Lived k (y .held)

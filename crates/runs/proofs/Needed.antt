@@ -21,9 +21,9 @@ use Rattle.rules.specs.Estimator.{Estimator, fresh, is-pending, find, holds, ad
 use Rattle.rules.specs.Memory.{pending-records, confirmed-records, lay-pending, lay-confirmed, sound-pending, sound-confirmed, sound-counts, sound, view, state-of, lay}
 use Rattle.rules.specs.Calls.{start-call, enter-call, leave-call, gap, ids-of, pending-listings, block-call}
 use Rattle.rules.proofs.Edge.{id}
 use Rattle.meaning.specs.Runs.{Call, last-of, Above, Rising, empties, skipped, singly, event-of, Held, outcome-of, noted, begin, after, after-all, started, calls}
 use Rattle.meaning.specs.Fates.{admissions, lists, reached, within, verdict, settle, fate, fate-of, Kind, in-resolved, in-confirmed, of-kind, counted-at, counts-in, tally, ones, stored, count-of, Meant}
-use Rattle.meaning.proofs.Witness.{dirty, enters, connects}
+use Rattle.runs.proofs.Witness.{dirty, enters, connects}
 
 -- both counts of a kind for bucket 33 and column c, as their patterns: what is stored, and what the log makes
 abbrev stored-in : Kind → Held → ℕ → ℕ
