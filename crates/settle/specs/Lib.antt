@@ -1,2 +1,0 @@
-pub mod Shell
-pub mod Once
