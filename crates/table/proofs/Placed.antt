@@ -2,21 +2,21 @@
 -- Assumes nothing.
 use mathlib.Core.Path.{_≡_, sym, ap, _∙_}
 use mathlib.Core.Bool.{true}
-use mathlib.Core.List.{List, [], _++_, map, append-nil}
-use Prim.Native.Nat.{ℕ, _+_, _*_, _-_, _≤_, _<_}
-use native.Mathlib.Nat.{zero-add, add-zero}
+use mathlib.Core.List.{List, map}
+use Prim.Native.Nat.{ℕ, _+_, _*_, _≤_, _<_}
+use native.Mathlib.Nat.{zero-add}
 use native.Mathlib.Omega.{arith}
-use lib.ListN.{length, drop, getD, set, length-set, length-map, drop-of-length-le}
-use lib.Seq.{sets, sets-eq, take-at, drop-drop, drop-append-add}
+use lib.ListN.{length, set, length-set, length-map}
+use lib.Seq.{sets}
 use Rattle.seqs.proofs.Part.{next-part}
 use Rattle.rules.specs.Ids.{rising, placed, dropped}
-use Rattle.rules.specs.Records.{records, joined, id-of, laid}
-use Rattle.rules.proofs.Records.{Sized, length-records, sized-records, length-joined}
+use Rattle.rules.specs.Records.{records, id-of, laid}
+use Rattle.rules.proofs.Records.{Sized, length-records, sized-records}
 use Rattle.table.specs.Search.{find-in}
 use Rattle.table.specs.Edit.{insert-at}
 use Rattle.words.specs.Moves.{zeroed}
 use Rattle.table.specs.declared.Found.the-variants.{At, Gap}
-use Rattle.table.proofs.Records.{sized-set, sized-at}
+use Rattle.table.proofs.Records.{sized-set}
 use Rattle.table.proofs.Laid.{laid-more, record-bytes, length-insert}
 use Rattle.table.proofs.Search.{at-told, gap-told}
 use Rattle.table.proofs.View.{gap-placed, at-set}
@@ -30,7 +30,7 @@ module _ (size used at : ℕ) (rec xs : List ℕ) (up : rising (map id-of (recor
     pub at-within : at < used
     at-within = rw (length-map, length-records) at (at-told (id-of rec) (map id-of rs) at f .within)
 
-    pub at-is : set rs at rec ≡ placed id-of rec rs
+    at-is : set rs at rec ≡ placed id-of rec rs
     unfolding placed dropped
     at-is = at-set id-of rec 0 at rs up (rw zero-add f)
 
