@@ -1,4 +1,4 @@
-// THE PUBLIC CALLS. Each is what its definition in rules/specs/Calls says, for every input; none asks anything of its caller.
+// THE PUBLIC CALLS. Each is what its definition in rules/specs/Calls or format/specs/Calls says, for every input; none asks anything of its caller.
 mod block;
 mod column;
 
@@ -20,9 +20,11 @@ use kinds::Height;
 use kinds::Last;
 use kinds::LeaveAnswer;
 use kinds::Left;
+use kinds::Reading;
 use kinds::StartAnswer;
 use kinds::Started;
 use kinds::State;
+use kinds::Written;
 use memory::clear_counts;
 use memory::clear_table;
 use passes::judge_pending;
@@ -31,11 +33,13 @@ use table::capacity;
 use table::find;
 use table::insert_pending;
 ghost use mathlib.Core.Path.{_≡_};
-ghost use Rattle.kinds.specs.Answers.{start-answer, enter-answer, leave-answer, block-answer, estimate-answer};
+ghost use Rattle.kinds.specs.Answers.{start-answer, enter-answer, leave-answer, block-answer, estimate-answer, write-answer, read-answer};
 ghost use Rattle.rules.specs.Ladder.{bucket-index};
 ghost use Rattle.rules.specs.Board.{base};
 ghost use Rattle.rules.specs.Memory.{lent};
 ghost use Rattle.rules.specs.Calls.{outcome, start-call, enter-call, leave-call, block-call, estimate-call};
+ghost use Rattle.format.specs.File.{version-1};
+ghost use Rattle.format.specs.Calls.{output, write-call, read-call};
 
 // A fresh start: no count, no record, no last height.
 pub fn new(
@@ -194,4 +198,35 @@ pub fn bucket_index_for_rate(rate: FeeRate) -> usize
     ensures { λ b. ⌜ b ≡ bucket-index (rate .0) ⌝ }
 {
     ladder::bucket_index_for_rate(rate)
+}
+
+// Writes the history file into out, if it has room.
+pub fn to_history_bytes(
+    state: State,
+    confirmed: &[f64],
+    resolved: &[f64],
+    pending: &[u8],
+    recent: &[u8],
+    out: &mut [u8],
+) -> Written
+    ensures { λ r. ⌜
+        outcome (write-answer (r .answer)) (r .state) (output (r .len) (now (out .exit)))
+        ≡ write-call version-1 base state (lent (now (confirmed .entry)) (now (resolved .entry)) (now (pending .entry)) (now (recent .entry))) (now (out .entry)) ⌝ }
+{
+    history::to_history_bytes(state, confirmed, resolved, pending, recent, out)
+}
+
+// Reads a history file into the lent memory.
+pub fn from_history_bytes(
+    bytes: &[u8],
+    confirmed: &mut [f64],
+    resolved: &mut [f64],
+    pending: &mut [u8],
+    recent: &mut [u8],
+) -> Reading
+    ensures { λ r. ⌜
+        outcome (read-answer (r .answer)) (r .state) (lent (now (confirmed .exit)) (now (resolved .exit)) (now (pending .exit)) (now (recent .exit)))
+        ≡ read-call version-1 base (lent (now (confirmed .entry)) (now (resolved .entry)) (now (pending .entry)) (now (recent .entry))) (now (bytes .entry)) ⌝ }
+{
+    history::from_history_bytes(bytes, confirmed, resolved, pending, recent)
 }

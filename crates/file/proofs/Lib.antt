@@ -3,3 +3,4 @@ pub mod Header
 pub mod Listed
 pub mod Whole
 pub mod Judged
+pub mod Held

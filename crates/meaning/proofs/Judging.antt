@@ -12,12 +12,13 @@ use Rattle.kinds.specs.declared.Height.{Height}
 use Rattle.kinds.specs.declared.State.{State}
 use Rattle.kinds.specs.Answers.{Answer, damaged, already-pending, pending-full, absent, bad-list, gap-too-wide, confirmed-full}
 use Rattle.rules.specs.Ids.{Id}
-use Rattle.rules.specs.Board.{Board, Pending, pending-most}
+use Rattle.rules.specs.Board.{Board, pending-most}
 use Rattle.rules.specs.Estimator.{is-pending, without, admit, block-connected}
 use Rattle.rules.specs.Records.{records, sound-table}
 use Rattle.rules.specs.Memory.{Lent, pending-capacity, confirmed-capacity, pending-records, sound-pending, sound, view}
 use Rattle.rules.specs.Calls.{Outcome, refused, accepted, accepted-pending, enter-call, leave-call, gap, widest-gap, ids-of, pending-listings, block-call}
 use Rattle.rules.proofs.Records.{and-left, length-records, used-within}
+use Rattle.meaning.proofs.Table.{Free}
 
 pub data Judged {L : Type 0} (s : State) (l : L) (good : Outcome L) (Why : Type 0) : Outcome L → Type 0 where
   turned : (a : Answer) → eqb (a .number) 0 ≡ false → Judged s l good Why (refused a s l)
@@ -27,11 +28,6 @@ module _ {L : Type 0} {s : State} {l : L} {good : Outcome L} {Why : Type 0} wher
   unless : (a : Answer) → eqb (a .number) 0 ≡ false → (b : Bool) {o : Outcome L} → (b ≡ false → Judged s l good Why o) → Judged s l good Why (cond b (refused a s l) o)
   unless a z true f = turned a z
   unless a z false f = f refl
-
--- why an enter is taken: its id is not pending, and the table has a place
-pub record Fits (places : ℕ) (i : Id) (rs : List Pending) : Type 0 where
-  pub absent : is-pending i rs ≡ false
-  pub place : length rs < places
 
 pub pending-length : (k : Board) (n : ℕ) (xs : List ℕ) → length (pending-records k n xs) ≡ n
 unfolding pending-records
@@ -44,7 +40,7 @@ pending-within k n xs h = used-within (k .table .size) pending-most n xs (and-le
 
 module _ (k : Board) (s : State) where
   pub enter-judged : (xs : List ℕ) (i : Id) (rate : FeeRate) (h : Height)
-      → Judged s xs (accepted-pending k s (admit i (rate .0) (h .0) (pending-records k (s .pending) xs)) xs) (Fits (pending-capacity k xs) i (pending-records k (s .pending) xs)) (enter-call k s xs i rate h)
+      → Judged s xs (accepted-pending k s (admit i (rate .0) (h .0) (pending-records k (s .pending) xs)) xs) (Free (pending-capacity k xs) i (pending-records k (s .pending) xs)) (enter-call k s xs i rate h)
   unfolding enter-call
   enter-judged xs i rate h =
       unless damaged refl (not (sound-pending k (s .pending) xs))

@@ -25,7 +25,7 @@ use Rattle.rules.proofs.Room.{length-insert, length-keep, within-block}
 use Rattle.meaning.specs.Runs.{arrival, removal, block, Log, begin, _▸_, Call, enter, leave, connect, Typed, AllTyped, event-of, Held, with-table, outcome-of, noted, after, after-all, started, calls}
 use Rattle.meaning.specs.Answered.{run}
 use Rattle.meaning.proofs.Table.{Free, newcomer, admit-free, Admitted}
-use Rattle.meaning.proofs.Judging.{Judged, turned, taken, Fits, enter-judged, leave-judged, block-judged}
+use Rattle.meaning.proofs.Judging.{Judged, turned, taken, enter-judged, leave-judged, block-judged}
 
 -- what a caller has, if the memory lent was m and the log is g
 abbrev pub at : Board → Lent → Log → Held
@@ -85,12 +85,12 @@ module _ (k : Board) (law : Lawful k) (m : Lent) (g : Log) (v : Live k m g) wher
   unfolding after outcome-of Typed tabled lay run tx-entered noted event-of
   enter-leads i rate h t = go (enter-call k s xs i rate h) (enter-judged k s xs i rate h)
     where
-      go : (o : Outcome (List ℕ)) → Judged s xs (accepted-pending k s (admit i (rate .0) (h .0) (pending-records k (s .pending) xs)) xs) (Fits (pending-capacity k xs) i (pending-records k (s .pending) xs)) o
+      go : (o : Outcome (List ℕ)) → Judged s xs (accepted-pending k s (admit i (rate .0) (h .0) (pending-records k (s .pending) xs)) xs) (Free (pending-capacity k xs) i (pending-records k (s .pending) xs)) o
           → Leads k m (noted (enter i rate h) (with-table (lay k e m) o) g)
       go o (turned a z) = stays a (enter i rate h) z
       go o (taken f) =
           let n : length (e .pending) < pending-capacity k (m .pending) = omega (arith, f .place, ap length back, same-room) in
-          let free : Free i (e .pending) = record { absent = ap (is-pending i) (sym back) ∙ f .absent; place = omega arith } in
+          let free : Free pending-most i (e .pending) = record { absent = ap (is-pending i) (sym back) ∙ f .absent; place = omega arith } in
           let longer : length (admit i (rate .0) (h .0) (e .pending)) ≡ suc (length (e .pending)) =
           ap length (admit-free i (rate .0) (h .0) (e .pending) free) ∙ length-insert (λ x y. below (x .id) (y .id)) (newcomer i (rate .0) (h .0)) (e .pending) in
           record {

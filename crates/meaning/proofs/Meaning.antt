@@ -17,7 +17,7 @@ use Rattle.rules.proofs.Memory.{view-of-lay}
 use Rattle.rules.proofs.Sound.{well-fits}
 use Rattle.meaning.specs.Runs.{Log, Rising, singly, Held, calls}
 use Rattle.meaning.specs.Fates.{admissions, Kind, in-resolved, in-confirmed, count-of, pends, Meant, Promise}
-use Rattle.meaning.specs.Answered.{run, Restated}
+use Rattle.meaning.specs.Answered.{run, Restated, RestatePromise}
 use Rattle.meaning.proofs.Table.{table}
 use Rattle.meaning.proofs.Counts.{of, counts-are}
 use Rattle.meaning.proofs.Once.{once}
@@ -58,7 +58,7 @@ module _ (k : Board) (law : Lawful k) (m : Lent) (x : Held) (c : Comes k m x) wh
       last-is = ap (λ (y : Held). y .state .last) (c .is) ∙ ap (λ (e : Estimator). e .last) (run-singly k (x .log) r) ∙ last-singles k l;
     }
 
-    pub restated : Restated k l x
+    restated : Restated k l x
     restated = record {
       once = λ which b d low high. once which k b d l (climbs-singly (x .log) r);
       gone = λ g ids h q.
@@ -66,6 +66,10 @@ module _ (k : Board) (law : Lawful k) (m : Lent) (x : Held) (c : Comes k m x) wh
           ∙ ap (λ (n : Log). count (λ a. pends k a && leb (a .entry + k .width * columns) h) (admissions n)) q
           ∙ none-late k g ids h;
     }
+
+pub restate-promise : (k : Board) → Lawful k → RestatePromise k
+unfolding RestatePromise
+restate-promise k law m e cs t r = restated k law m (calls k m cs) (comes k law m e cs t) r
 
 pub promise : (k : Board) → Lawful k → Promise k
 unfolding Promise

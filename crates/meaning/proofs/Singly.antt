@@ -9,7 +9,7 @@ use lib.Dec.{ltb, lt→ltb}
 use Rattle.kinds.specs.declared.Last.{Last}
 use Rattle.kinds.specs.declared.Last.the-variants.{Nothing, At}
 use Rattle.rules.specs.Ids.{Id}
-use Rattle.rules.specs.Board.{Board}
+use Rattle.rules.specs.Board.{Board, pending-most}
 use Rattle.rules.specs.Estimator.{Estimator, fresh, tx-entered, tx-left, advance-height, advances, advance-heights, skip-heights, confirm-all, finish-block, block-connected}
 use Rattle.meaning.specs.Runs.{arrival, removal, block, Log, begin, _▸_, last-of, Above, Rising, empties, skipped, singly}
 use Rattle.meaning.specs.Answered.{run}
@@ -111,6 +111,6 @@ admitted-skipped k (At g) B l f = admitted-empties k (g .0) _ l f
 pub admitted-singly : (k : Board) (l : Log) → Rising l → Admitted (λ g. run k g .pending) l → Admitted (left-by k) (singly l)
 unfolding singly Rising
 admitted-singly k begin r f = tt
-admitted-singly k (l ▸ arrival i rate e) r f = (admitted-singly k l r (f .0), subst (λ (s : Estimator). Free i (s .pending)) (run-singly k l r) (f .1))
+admitted-singly k (l ▸ arrival i rate e) r f = (admitted-singly k l r (f .0), subst (λ (s : Estimator). Free pending-most i (s .pending)) (run-singly k l r) (f .1))
 admitted-singly k (l ▸ removal i) r f = admitted-singly k l r f
 admitted-singly k (l ▸ block ids B) r f = admitted-skipped k (last-of l) B (singly l) (admitted-singly k l (r .0) f)

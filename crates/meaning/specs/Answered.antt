@@ -88,7 +88,7 @@ pub record Follows (k : Board) (m : Lent) (x : Held) : Type 0 where
 unfoldable pub RunPromise : Board → Type 0
 RunPromise k = (m : Lent) → start-call k m .answer ≡ done → (cs : List Call) → AllTyped cs → Follows k m (calls k m cs)
 
--- ---- restatements: each follows from the definitions of Fates.antt and from `Meant`
+-- ---- restatements, where blocks rise: each follows from the definitions of Fates.antt and from `Meant`
 
 -- counted at some height
 unfoldable pub is-counted : Kind → Fate → Bool
@@ -109,3 +109,6 @@ pub record Restated (k : Board) (l : Log) (x : Held) : Type 0 where
   -- "It has gone by the first such height of e + 25 or more": after a block nothing is pending whose time has come
   pub gone : (g : Log) (ids : List Id) (h : ℕ) → l ≡ g ▸ block ids h
       → count (λ r. leb (r .entry + k .width * columns) h) (pending-records k (x .state .pending) (x .memory .pending)) ≡ 0
+
+unfoldable pub RestatePromise : Board → Type 0
+RestatePromise k = (m : Lent) → start-call k m .answer ≡ done → (cs : List Call) → AllTyped cs → Rising (calls k m cs .log) → Restated k (singly (calls k m cs .log)) (calls k m cs)

@@ -1,0 +1,138 @@
+-- `history::read::from_history_bytes` meets its contract: the lengths of the count slices first, then what the check says of the file. Assumes nothing.
+use mathlib.Core.Path.{ap, _∙_, sym}
+use native.Mathlib.Omega.{arith}
+use denote.Ref.{now}
+use Rattle.kinds.specs.Answers.{read-answer}
+use Rattle.rules.specs.Board.{base}
+use Rattle.rules.specs.Memory.{Lent, lent}
+use Rattle.format.specs.Calls.{taken-in}
+use Rattle.file.specs.Says.{said}
+use Rattle.history.proofs.Answered.{few-confirmed, few-resolved, as-taken, file-refused, read-as}
+use borrow.Author.Needs.{needs}
+use Rattle.history.proofs.read.from_history_bytes.Statement.{statement}
+use Rattle.history.proofs.read.from_history_bytes.Tie as tie
+
+-- the beginning, from where the file is checked, and the lent memory
+abbrev start : tie.After-check → tie.Start
+start k = k .before .before .before .before .before .before .before .before
+
+abbrev given : tie.Start → Lent
+given s = let a = s .args in lent (now (a .confirmed)) (now (a .resolved)) (now (a .pending)) (now (a .recent))
+
+refused-requires : tie.Need-refused-requires
+refused-requires c κs = search needs
+
+returns : tie.Need-returns
+returns c =
+    let s = c .before .before .before .before .before .before .before in
+    few-confirmed (given s) (now (s .args .bytes)) (c .refused .result) (c .refused .ensures) (omega arith)
+
+refused-requires-2 : tie.Need-refused-requires-2
+refused-requires-2 c κs = search needs
+
+returns-2 : tie.Need-returns-2
+returns-2 c =
+    let s = c .before .before .before .before .before .before .before .before in
+    few-resolved (given s) (now (s .args .bytes)) (c .refused2 .result) (c .refused2 .ensures) (omega arith) (omega arith)
+
+check-requires : tie.Need-check-requires
+check-requires c κs = search needs
+
+enum-told : tie.Need-enum-told
+enum-told c = search needs
+
+refused-requires-3 : tie.Need-refused-requires-3
+refused-requires-3 c κs = search needs
+
+enum-known-header : tie.Need-enum-known-header
+enum-known-header c = search needs
+
+refused-requires-4 : tie.Need-refused-requires-4
+refused-requires-4 c κs = search needs
+
+enum-told-2 : tie.Need-enum-told-2
+enum-told-2 c = search needs
+
+refused-requires-5 : tie.Need-refused-requires-5
+refused-requires-5 c κs = search needs
+
+enum-known-header-2 : tie.Need-enum-known-header-2
+enum-known-header-2 c = search needs
+
+take-in-requires : tie.Need-take-in-requires
+unfolding said
+take-in-requires c κs =
+    let k = c .before .before .before .before .before .before .before in
+    (read-as (k .check .result) (now (start k .args .bytes)) _ (c .before .before .before .before .before .header2 .given .1) (k .check .ensures), (omega arith, omega arith))
+
+returns-3 : tie.Need-returns-3
+unfolding said read-answer
+returns-3 c =
+    let k = c .before .before .before in
+    let s = start k in
+    file-refused (given s) (now (s .args .bytes)) (omega arith) (omega arith) (c .refused3 .result) _ (c .refused3 .ensures)
+    (read-as (k .check .result) (now (s .args .bytes)) _ (c .before .enum-told .given .1) (k .check .ensures))
+
+returns-4 : tie.Need-returns-4
+unfolding said read-answer
+returns-4 c =
+    let k = c .before .before .before .before in
+    let s = start k in
+    file-refused (given s) (now (s .args .bytes)) (omega arith) (omega arith) (c .refused4 .result) _ (c .refused4 .ensures)
+    (read-as (k .check .result) (now (s .args .bytes)) _ (c .before .before .header .given .1) (k .check .ensures))
+
+returns-5 : tie.Need-returns-5
+unfolding said read-answer
+returns-5 c =
+    let k = c .before .before .before in
+    let s = start k in
+    file-refused (given s) (now (s .args .bytes)) (omega arith) (omega arith) (c .refused5 .result) _ (c .refused5 .ensures)
+    (read-as (k .check .result) (now (s .args .bytes)) _ (c .before .enum-told2 .given .1) (k .check .ensures))
+
+same-length : tie.Need-same-length
+same-length c = search needs
+
+same-length-2 : tie.Need-same-length-2
+same-length-2 c = search needs
+
+same-length-3 : tie.Need-same-length-3
+same-length-3 c = search needs
+
+same-length-4 : tie.Need-same-length-4
+same-length-4 c = search needs
+
+returns-6 : tie.Need-returns-6
+unfolding said
+returns-6 c =
+    let t = c .before .before .before .before .before .before .before .before in
+    let k = t .before .before .before .before .before .before .before .before in
+    let s = start k in
+    t .take-in .ensures
+    ∙ ap (taken-in base (given s)) (sym (read-as (k .check .result) (now (s .args .bytes)) _ (t .before .before .before .before .before .before .header2 .given .1) (k .check .ensures)))
+    ∙ as-taken (given s) (now (s .args .bytes)) (omega arith) (omega arith)
+
+pub from-history-bytes-spec : {M : Type 1} → statement M
+from-history-bytes-spec =
+    tie.close
+    (tie.spec
+    refused-requires
+    returns
+    refused-requires-2
+    returns-2
+    check-requires
+    enum-told
+    refused-requires-3
+    enum-known-header
+    refused-requires-4
+    enum-told-2
+    refused-requires-5
+    enum-known-header-2
+    take-in-requires
+    returns-3
+    returns-4
+    returns-5
+    same-length
+    same-length-2
+    same-length-3
+    same-length-4
+    returns-6)

@@ -1,0 +1,143 @@
+// Reading a history file into the lent memory. Nothing is stored before the whole file is accepted.
+use codec::buckets::load_buckets;
+use codec::numbers::rest;
+use file::Header;
+use file::check;
+use file::header_len;
+use kinds::Last;
+use kinds::ReadAnswer;
+use kinds::Reading;
+use kinds::State;
+use restore::load_table;
+ghost use mathlib.Core.Path.{_≡_};
+ghost use Prim.Native.Nat.{_≤_};
+ghost use lib.ListN.{length};
+ghost use Rattle.kinds.specs.Answers.{done, read-answer};
+ghost use Rattle.rules.specs.Board.{base};
+ghost use Rattle.rules.specs.Counts.{places-of-counts};
+ghost use Rattle.rules.specs.Estimator.{fresh};
+ghost use Rattle.rules.specs.Memory.{lent, state-of, pending-capacity, confirmed-capacity};
+ghost use Rattle.rules.specs.Calls.{outcome, accepted};
+ghost use Rattle.format.specs.Parts.{good};
+ghost use Rattle.format.specs.File.{version-1, read-history, restored};
+ghost use Rattle.format.specs.Calls.{taken-in, read-call};
+ghost use Rattle.file.specs.Says.{filed};
+
+// A refusal, with an empty state.
+fn refused(answer: ReadAnswer) -> Reading
+    ensures { λ r. ⌜ (r .answer ≡ answer) × (r .state ≡ state-of fresh) ⌝ }
+{
+    Reading {
+        answer,
+        state: State {
+            last: Last::Nothing,
+            pending: 0,
+            recent: 0,
+        },
+    }
+}
+
+// The counts and the n pending and m confirmed records of a file that was read are stored, the tables with room for `most` and `more` records.
+fn store(
+    bytes: &[u8],
+    last: Last,
+    n: usize,
+    m: usize,
+    confirmed: &mut [f64],
+    resolved: &mut [f64],
+    pending: &mut [u8],
+    recent: &mut [u8],
+    most: usize,
+    more: usize,
+) -> State
+    requires { ⌜ read-history version-1 (now bytes) ≡ good (filed last n m (now bytes)) ⌝ }
+    requires { ⌜ (places-of-counts ≤ length (now confirmed)) × (places-of-counts ≤ length (now resolved)) ⌝ }
+    requires { ⌜ (n ≤ most) × (most ≡ pending-capacity base (now pending)) ⌝ }
+    requires { ⌜ (m ≤ more) × (more ≡ confirmed-capacity (now recent)) ⌝ }
+    ensures { λ r. ⌜
+        outcome done r (lent (now (confirmed .exit)) (now (resolved .exit)) (now (pending .exit)) (now (recent .exit)))
+        ≡ accepted base (restored (filed last n m (now (bytes .entry)))) (lent (now (confirmed .entry)) (now (resolved .entry)) (now (pending .entry)) (now (recent .entry))) ⌝ }
+{
+    let at = header_len(last);
+    load_buckets(bytes, at, confirmed, resolved);
+    let p = load_table(pending, rest(bytes, at + 57940), 44, n, most);
+    let q = load_table(recent, rest(bytes, at + 57944 + 44 * n), 36, m, more);
+    State {
+        last,
+        pending: p,
+        recent: q,
+    }
+}
+
+// What becomes of a file that was read: it is stored if both tables have room for its records, repeats counted.
+fn take_in(
+    bytes: &[u8],
+    last: Last,
+    n: usize,
+    m: usize,
+    confirmed: &mut [f64],
+    resolved: &mut [f64],
+    pending: &mut [u8],
+    recent: &mut [u8],
+) -> Reading
+    requires { ⌜ read-history version-1 (now bytes) ≡ good (filed last n m (now bytes)) ⌝ }
+    requires { ⌜ (places-of-counts ≤ length (now confirmed)) × (places-of-counts ≤ length (now resolved)) ⌝ }
+    ensures { λ r. ⌜
+        outcome (read-answer (r .answer)) (r .state) (lent (now (confirmed .exit)) (now (resolved .exit)) (now (pending .exit)) (now (recent .exit)))
+        ≡ taken-in base (lent (now (confirmed .entry)) (now (resolved .entry)) (now (pending .entry)) (now (recent .entry))) (good (filed last n m (now (bytes .entry)))) ⌝ }
+{
+    let most = table::capacity(pending, 44, 10000);
+    if most < n {
+        return refused(ReadAnswer::NoRoom);
+    }
+    let more = table::capacity(recent, 36, 1000000);
+    if more < m {
+        return refused(ReadAnswer::NoRoom);
+    }
+    let s = store(
+        bytes,
+        last,
+        n,
+        m,
+        confirmed,
+        resolved,
+        pending,
+        recent,
+        most,
+        more,
+    );
+    Reading {
+        answer: ReadAnswer::Done,
+        state: s,
+    }
+}
+
+// Reads a history file.
+pub fn from_history_bytes(
+    bytes: &[u8],
+    confirmed: &mut [f64],
+    resolved: &mut [f64],
+    pending: &mut [u8],
+    recent: &mut [u8],
+) -> Reading
+    ensures { λ r. ⌜
+        outcome (read-answer (r .answer)) (r .state) (lent (now (confirmed .exit)) (now (resolved .exit)) (now (pending .exit)) (now (recent .exit)))
+        ≡ read-call version-1 base (lent (now (confirmed .entry)) (now (resolved .entry)) (now (pending .entry)) (now (recent .entry))) (now (bytes .entry)) ⌝ }
+{
+    if confirmed.len() < 3550 {
+        return refused(ReadAnswer::Damaged);
+    }
+    if resolved.len() < 3550 {
+        return refused(ReadAnswer::Damaged);
+    }
+    let c = check(bytes);
+    let header = c.header;
+    let n = c.pending;
+    let m = c.recent;
+    match header {
+        Header::BadMagic => refused(ReadAnswer::BadMagic),
+        Header::UnknownVersion(v) => refused(ReadAnswer::UnknownVersion(v)),
+        Header::Corrupt => refused(ReadAnswer::Corrupt),
+        Header::Good(last) => take_in(bytes, last, n, m, confirmed, resolved, pending, recent),
+    }
+}

@@ -1,0 +1,49 @@
+// A reader of the history's bytes: a thin record that holds what is left of them. Its step takes the record apart and calls the covered functions on parts of lent bytes.
+ghost use mathlib.Core.Path.{_≡_};
+ghost use lib.ListN.{take, drop};
+
+pub struct Reader<'a> {
+    pub bytes: &'a [u8],
+}
+
+pub fn new<'a>(bytes: &'a [u8]) -> Reader<'a>
+    ensures { λ r. ⌜ r .bytes ≡ bytes .entry ⌝ }
+{
+    Reader { bytes }
+}
+
+impl<'a> Reader<'a> {
+    // The take step: the first n bytes are handed back, the head of what was lent itself and never a copy, and the reader goes past them. Where there are fewer, all of them, and nothing is left.
+    pub fn take(&mut self, n: usize) -> &'a [u8]
+        ensures { λ r. ⌜ (r .ptr ≡ now (self .entry) .bytes .ptr) × (now r ≡ take n (now (now (self .entry) .bytes))) × (now (now (self .exit) .bytes) ≡ drop n (now (now (self .entry) .bytes))) ⌝ }
+    {
+        let b = self.bytes;
+        let t = codec::numbers::rest(b, n);
+        self.bytes = t;
+        codec::numbers::take(b, n)
+    }
+}
+
+// What a reader of s holds after n bytes were taken.
+pub fn after(s: &[u8], n: usize) -> &[u8]
+    ensures { λ r. ⌜ now r ≡ drop n (now (s .entry)) ⌝ }
+{
+    let mut r = new(s);
+    r.take(n);
+    r.bytes
+}
+
+// What a reader of s hands back as the first n bytes.
+pub fn first(s: &[u8], n: usize) -> &[u8]
+    ensures { λ r. ⌜ (r .ptr ≡ s .entry .ptr) × (now r ≡ take n (now (s .entry))) ⌝ }
+{
+    let mut r = new(s);
+    r.take(n)
+}
+
+// The n bytes after the first `at`.
+pub fn part(s: &[u8], at: usize, n: usize) -> &[u8]
+    ensures { λ r. ⌜ now r ≡ take n (drop at (now (s .entry))) ⌝ }
+{
+    first(after(s, at), n)
+}

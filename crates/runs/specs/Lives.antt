@@ -1,0 +1,95 @@
+-- The life of a caller: every public call, in any order, each given the state and the slices as the call before left them. "A run begins with a fresh
+-- start or an accepted reading of any kind, and each later accepted one begins another run. .. a reading or a fresh start that is refused gives the run
+-- no state, and the run goes on with the state it had before." Assumes nothing.
+use mathlib.Core.Path.{_≡_}
+use Prim.Native.Nat.{ℕ}
+use mathlib.Core.Bool.{Bool, true, false, cond}
+use mathlib.Core.List.{List, [], _∷_}
+use lib.Dec.{eqb}
+use Rattle.kinds.specs.declared.Blocks.{Blocks}
+use Rattle.kinds.specs.declared.State.{State}
+use Rattle.rules.specs.Board.{Board}
+use Rattle.rules.specs.Memory.{Lent}
+use Rattle.rules.specs.Calls.{Outcome, start-call}
+use Rattle.format.specs.File.{Version}
+use Rattle.format.specs.Calls.{write-call, read-call}
+use Rattle.meaning.specs.Runs.{begin, Rising, singly, Call, Typed, Held, after}
+use Rattle.meaning.specs.Fates.{Meant}
+use Rattle.meaning.specs.Answered.{Answered}
+
+-- a public call
+pub data Ask : Type 0 where
+  start : Ask
+  change : Call → Ask  -- enter, leave, block
+  estimate : Blocks → Ask  -- target
+  write : List ℕ → Ask  -- the output as it is lent
+  read : List ℕ → Ask  -- the file's bytes
+
+-- what a caller has, and whether the run that stands began with a fresh start
+pub record Life : Type 0 where
+  pub is-fresh : Bool
+  pub held : Held
+
+-- the same run, and what the caller has now
+abbrev pub holding : Life → Held → Life
+holding y x = record { is-fresh = y .is-fresh; held = x }
+
+-- with this state and memory, and the log as it was
+abbrev pub goes-on : Life → State → Lent → Life
+goes-on y s m = holding y (record { state = s; memory = m; log = y .held .log })
+
+-- another run
+abbrev pub begins : Bool → State → Lent → Life
+begins f s m = record { is-fresh = f; held = record { state = s; memory = m; log = begin } }
+
+-- after a fresh start (true) or a reading (false): another run if it is answered 0, and otherwise the one before, with the state it had before
+unfoldable pub begun : Bool → Outcome Lent → Life → Life
+begun f o y = cond (eqb (o .answer .number) 0) (begins f (o .state) (o .lent)) (goes-on y (y .held .state) (o .lent))
+
+-- what a caller has after a call
+unfoldable pub next : Version → Board → Ask → Life → Life
+next v k start y = begun true (start-call k (y .held .memory)) y
+next v k (change c) y = holding y (after k c (y .held))
+next v k (estimate target) y = y
+next v k (write out) y = goes-on y (write-call v k (y .held .state) (y .held .memory) out .state) (y .held .memory)
+next v k (read file) y = begun false (read-call v k (y .held .memory) file) y
+
+-- after some calls
+unfoldable pub lives : Version → Board → List Ask → Life → Life
+lives v k [] y = y
+lives v k (q ∷ qs) y = lives v k qs (next v k q y)
+
+-- what the code's types say of the arguments
+unfoldable pub TypedAsk : Ask → Type 0
+TypedAsk start = Unit {0}
+TypedAsk (change c) = Typed c
+TypedAsk (estimate target) = Unit {0}
+TypedAsk (write out) = Unit {0}
+TypedAsk (read file) = Unit {0}
+
+-- of each call
+unfoldable pub TypedAsks : List Ask → Type 0
+TypedAsks [] = Unit {0}
+TypedAsks (q ∷ qs) = TypedAsk q × TypedAsks qs
+
+-- ---- estimates, writes, and readings and fresh starts that are refused stand anywhere and change nothing
+
+unfoldable pub Aside : Version → Board → Ask → Life → Type 0
+Aside v k start y = eqb (start-call k (y .held .memory) .answer .number) 0 ≡ false
+Aside v k (change c) y = ⊥
+Aside v k (estimate target) y = Unit {0}
+Aside v k (write out) y = Unit {0}
+Aside v k (read file) y = eqb (read-call v k (y .held .memory) file .answer .number) 0 ≡ false
+
+unfoldable pub AsidePromise : Version → Board → Type 0
+AsidePromise v k = (q : Ask) (y : Life) → Aside v k q y → next v k q y ≡ y
+
+-- ---- demand 3, of every life: whatever a caller had before, and whatever was called since, if the run that stands began with a fresh start and its
+-- accepted blocks rise
+
+pub record Lived (k : Board) (x : Held) : Type 0 where
+  pub meant : Meant k (singly (x .log)) x
+  pub answered : Answered k (singly (x .log)) x
+
+unfoldable pub LifePromise : Version → Board → Type 0
+LifePromise v k = (m : Life) → m .is-fresh ≡ false → (qs : List Ask) → TypedAsks qs → let y = lives v k qs m in y .is-fresh ≡ true → Rising (y .held .log) → Lived k (y .held)

@@ -1,0 +1,75 @@
+-- `script::sums::sum_doubles` meets its contract. The invariant: the doubles that are left, added to the sum so far, give the whole sum.
+-- Assumes nothing.
+use mathlib.Core.Path.{_≡_, refl, sym, ap, _∙_}
+use Prim.Native.Nat.{ℕ, _+_, _*_, _-_, _≤_, _<_}
+use native.Mathlib.Omega.{arith}
+use borrow.Author.Needs.{needs}
+use denote.Ref.{now}
+use lib.ListN.{length, drop}
+use Rattle.rules.specs.Bytes.{bytes}
+use Rattle.script.specs.Sums.{adler, adler32, doubles}
+use Rattle.script.specs.declared.sums.Sum.{Sum}
+use Rattle.script.proofs.Adler.{doubles-next, doubles-end}
+use Rattle.script.proofs.sums.sum_doubles.Statement.{statement}
+use Rattle.script.proofs.sums.sum_doubles.Tie as tie
+
+abbrev Inv-loop : tie.InvT-loop
+Inv-loop s t₀ i₀ t i = ((i ≤ length s) × ((t .a < 65521) × (t .b < 65521))) × (adler t₀ (doubles s) ≡ adler t (doubles (drop i s)))
+
+abbrev μ-loop : tie.MeasureT-loop
+μ-loop s t₀ i₀ t i = length s - i
+
+loop-holds : tie.Need-loop-holds Inv-loop μ-loop
+loop-holds c = ((omega arith, (omega arith, omega arith)), refl)
+
+mul-bits-of : tie.Need-mul-bits-of Inv-loop μ-loop
+mul-bits-of c = search needs
+
+shared-slice-read-bits-of : tie.Need-shared-slice-read-bits-of Inv-loop μ-loop
+shared-slice-read-bits-of c = omega arith
+
+bits-of-requires : tie.Need-bits-of-requires Inv-loop μ-loop
+bits-of-requires c κs = search needs
+
+add-bits-requires : tie.Need-add-bits-requires Inv-loop μ-loop
+add-bits-requires c κs = c .before .before .before .loop .inv .0 .1
+
+add-i : tie.Need-add-i Inv-loop μ-loop
+add-i c = omega arith
+
+loop-less : tie.Need-loop-less Inv-loop μ-loop
+loop-less c = omega arith
+
+loop-again : tie.Need-loop-again Inv-loop μ-loop
+loop-again c =
+    let l = c .before .before .before .before .loop in
+    let s = now (c .before .before .before .before .before .before .args .s) in
+    let e = c .add-bits .ensures .0 ∙ ap (λ (v : ℕ). adler (l .t) (bytes 8 v)) (c .before .bits-of .ensures) in
+    ((omega arith, c .add-bits .ensures .1), l .inv .1 ∙ doubles-next (l .t) s (l .i) (omega arith) ∙ ap (λ (t : Sum). adler t (doubles (drop (l .i + 1) s))) (sym e))
+
+total-requires : tie.Need-total-requires Inv-loop μ-loop
+total-requires c κs = c .before .loop .inv .0 .1
+
+returns : tie.Need-returns Inv-loop μ-loop
+unfolding adler32
+returns c =
+    let l = c .before .before .loop in
+    let s = now (c .before .before .before .before .args .s) in
+    c .total .ensures ∙ ap (λ (t : Sum). t .b * 65536 + t .a) (sym (l .inv .1 ∙ doubles-end (l .t) s (l .i) (omega arith)))
+
+pub sum-doubles-spec : {M : Type 1} → statement M
+sum-doubles-spec =
+    tie.close
+    (tie.spec
+    Inv-loop
+    μ-loop
+    loop-holds
+    mul-bits-of
+    shared-slice-read-bits-of
+    bits-of-requires
+    add-bits-requires
+    add-i
+    loop-less
+    loop-again
+    total-requires
+    returns)
