@@ -23,12 +23,7 @@ fn say_one(state: State, confirmed: &[f64], resolved: &[f64]) {
     say_targets(b"one id, targets 0 to 26:", state, confirmed, resolved);
 }
 
-fn one_id(
-    confirmed: &mut [f64],
-    resolved: &mut [f64],
-    pending: &mut [u8],
-    recent: &mut [u8],
-) {
+fn one_id(confirmed: &mut [f64], resolved: &mut [f64], pending: &mut [u8], recent: &mut [u8]) {
     let s = fresh(confirmed, resolved, pending, recent);
     let r = connect(s, confirmed, resolved, pending, recent, 1, 101);
     say_one(r.state, confirmed, resolved);
@@ -52,12 +47,7 @@ fn say_two(state: State, confirmed: &[f64], resolved: &[f64]) {
     say_targets(b"two ids, targets 0 to 26:", state, confirmed, resolved);
 }
 
-fn two_ids(
-    confirmed: &mut [f64],
-    resolved: &mut [f64],
-    pending: &mut [u8],
-    recent: &mut [u8],
-) {
+fn two_ids(confirmed: &mut [f64], resolved: &mut [f64], pending: &mut [u8], recent: &mut [u8]) {
     let s = two(confirmed, resolved, pending, recent);
     let r = connect(s, confirmed, resolved, pending, recent, 2, 101);
     say_two(r.state, confirmed, resolved);
@@ -75,12 +65,7 @@ fn four(
     enter(t, pending, 4, 1000)
 }
 
-fn quad(
-    confirmed: &mut [f64],
-    resolved: &mut [f64],
-    pending: &mut [u8],
-    recent: &mut [u8],
-) {
+fn quad(confirmed: &mut [f64], resolved: &mut [f64], pending: &mut [u8], recent: &mut [u8]) {
     let s = four(confirmed, resolved, pending, recent);
     let r = connect(s, confirmed, resolved, pending, recent, 2, 101);
     say_targets(b"Quad, targets 0 to 26:", r.state, confirmed, resolved);

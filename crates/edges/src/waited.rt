@@ -59,12 +59,7 @@ fn through(pending: &[u8]) -> u64 {
     26
 }
 
-fn expiry(
-    confirmed: &mut [f64],
-    resolved: &mut [f64],
-    pending: &mut [u8],
-    recent: &mut [u8],
-) {
+fn expiry(confirmed: &mut [f64], resolved: &mut [f64], pending: &mut [u8], recent: &mut [u8]) {
     let s = wait(confirmed, resolved, pending, recent, 101, 124);
     say_number(b"blocks 101 to 124, pending: ", s.pending as u64);
     say_number(b"blocks 101 to 124, resolved-through: ", through(pending));
@@ -73,12 +68,7 @@ fn expiry(
     say_number(b"then block 125, pending: ", t.pending as u64);
 }
 
-fn block_500(
-    confirmed: &mut [f64],
-    resolved: &mut [f64],
-    pending: &mut [u8],
-    recent: &mut [u8],
-) {
+fn block_500(confirmed: &mut [f64], resolved: &mut [f64], pending: &mut [u8], recent: &mut [u8]) {
     let s = wait(confirmed, resolved, pending, recent, 500, 500);
     say_row(b"first block 500, resolved in bucket 33:", resolved);
     say_number(b"first block 500, pending: ", s.pending as u64);
@@ -98,12 +88,7 @@ fn say_103(state: State, confirmed: &[f64], resolved: &[f64]) {
     say_number(b"then block 103, last height: ", height_of(last));
 }
 
-fn block_103(
-    confirmed: &mut [f64],
-    resolved: &mut [f64],
-    pending: &mut [u8],
-    recent: &mut [u8],
-) {
+fn block_103(confirmed: &mut [f64], resolved: &mut [f64], pending: &mut [u8], recent: &mut [u8]) {
     let s = wait(confirmed, resolved, pending, recent, 105, 105);
     say_number(b"block 105, resolved-through: ", through(pending));
     let r = connect(s, confirmed, resolved, pending, recent, 1, 103);
@@ -125,24 +110,14 @@ fn gap_4097(
 }
 
 // And then one that is 4,096 above it.
-fn gaps(
-    confirmed: &mut [f64],
-    resolved: &mut [f64],
-    pending: &mut [u8],
-    recent: &mut [u8],
-) {
+fn gaps(confirmed: &mut [f64], resolved: &mut [f64], pending: &mut [u8], recent: &mut [u8]) {
     let s = gap_4097(confirmed, resolved, pending, recent);
     let r = connect(s, confirmed, resolved, pending, recent, 0, 4196);
     let a = r.answer;
     say_number(b"gap 4096: ", block_number(a));
 }
 
-fn waits(
-    confirmed: &mut [f64],
-    resolved: &mut [f64],
-    pending: &mut [u8],
-    recent: &mut [u8],
-) {
+fn waits(confirmed: &mut [f64], resolved: &mut [f64], pending: &mut [u8], recent: &mut [u8]) {
     expiry(confirmed, resolved, pending, recent);
     block_500(confirmed, resolved, pending, recent);
 }

@@ -69,7 +69,17 @@ fn clear_blocks(
     let mut b: u32 = 0;
     while b < 1500 {
         b += 1;
-        s = clear_one(s, confirmed, resolved, pending, recent, b, chain + b, name, out);
+        s = clear_one(
+            s,
+            confirmed,
+            resolved,
+            pending,
+            recent,
+            b,
+            chain + b,
+            name,
+            out,
+        );
     }
     s.at
 }

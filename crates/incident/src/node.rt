@@ -96,7 +96,16 @@ fn busy_block(
     let before = height - 1;
     let s = enter_all(state, pending, first, 10, FeeRate(50000), Height(before));
     let t = enter_all(s, pending, first + 10, 10, FeeRate(10000), Height(before));
-    connect(t, confirmed, resolved, pending, recent, first, 10, Height(height))
+    connect(
+        t,
+        confirmed,
+        resolved,
+        pending,
+        recent,
+        first,
+        10,
+        Height(height),
+    )
 }
 
 // Clear block number b: fifteen transactions at 2,000 are confirmed at once.
@@ -113,7 +122,16 @@ pub(crate) fn clear_block(
 {
     let first = 1000000 + b * 15;
     let s = enter_all(state, pending, first, 15, FeeRate(2000), Height(height - 1));
-    connect(s, confirmed, resolved, pending, recent, first, 15, Height(height))
+    connect(
+        s,
+        confirmed,
+        resolved,
+        pending,
+        recent,
+        first,
+        15,
+        Height(height),
+    )
 }
 
 // 1,008 busy blocks from height `from` on.

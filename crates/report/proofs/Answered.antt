@@ -49,6 +49,6 @@ unfolding sound
 told-is l file b =
     let o = read-call version-1 base l file in
     told-same (o .answer) (o .state) _ _ (λ d.
-      let s = accepted-is-sound version-1 version-1-lawful base base-lawful l file b d in
-      let rest = and-right (sound-counts (o .lent .confirmed)) _ s in
-      answered-is (o .state) (o .lent .confirmed) (o .lent .resolved) (and-left (sound-counts (o .lent .confirmed)) _ s) (and-left (sound-counts (o .lent .resolved)) _ rest))
+    let s = accepted-is-sound version-1 version-1-lawful base base-lawful l file b d in
+    let rest = and-right (sound-counts (o .lent .confirmed)) _ s in
+    answered-is (o .state) (o .lent .confirmed) (o .lent .resolved) (and-left (sound-counts (o .lent .confirmed)) _ s) (and-left (sound-counts (o .lent .resolved)) _ rest))

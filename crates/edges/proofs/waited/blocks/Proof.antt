@@ -8,7 +8,7 @@ use Rattle.edges.proofs.waited.blocks.Statement.{statement}
 use Rattle.edges.proofs.waited.blocks.Tie as tie
 
 abbrev Inv-loop : tie.InvT-loop
-Inv-loop confirmed₀ resolved₀ pending₀ recent₀ first last s₀ h₀ confirmed resolved pending recent s h = 
+Inv-loop confirmed₀ resolved₀ pending₀ recent₀ first last s₀ h₀ confirmed resolved pending recent s h =
     (h ≤ last + 1) × ((length confirmed ≡ length confirmed₀) × ((length resolved ≡ length resolved₀) × ((length pending ≡ length pending₀) × (length recent ≡ length recent₀))))
 
 abbrev μ-loop : tie.MeasureT-loop
