@@ -1,6 +1,5 @@
 // Reading a history file into the lent memory. Nothing is stored before the whole file is accepted.
 use codec::buckets::load_buckets;
-use codec::numbers::rest;
 use file::Header;
 use file::check;
 use file::header_len;
@@ -8,6 +7,7 @@ use kinds::Last;
 use kinds::ReadAnswer;
 use kinds::Reading;
 use kinds::State;
+use reader::after;
 use restore::load_table;
 ghost use mathlib.Core.Path.{_≡_};
 ghost use Prim.Native.Nat.{_≤_};
@@ -61,8 +61,8 @@ fn store(
 {
     let at = header_len(last);
     load_buckets(bytes, at, confirmed, resolved);
-    let p = load_table(pending, rest(bytes, at + 57940), 44, n, most);
-    let q = load_table(recent, rest(bytes, at + 57944 + 44 * n), 36, m, more);
+    let p = load_table(pending, after(bytes, at + 57940), 44, n, most);
+    let q = load_table(recent, after(bytes, at + 57944 + 44 * n), 36, m, more);
     State {
         last,
         pending: p,

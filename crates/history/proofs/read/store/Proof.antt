@@ -53,11 +53,11 @@ load-buckets-requires c κs =
     let e = h .header-len .ensures in
     ((omega (arith, k .long, e), (start h .pre .1 .0 .0, start h .pre .1 .0 .1)), ap (λ (i : ℕ). is-read (read-buckets rates (drop i (now (start h .args .bytes))))) e ∙ k .rows)
 
-add-rest : tie.Need-add-rest
-add-rest c = let h = c .before .before .before .before .before .before .before .before in omega (arith, known h .long, h .header-len .ensures)
+add-after : tie.Need-add-after
+add-after c = let h = c .before .before .before .before .before .before .before .before in omega (arith, known h .long, h .header-len .ensures)
 
-rest-requires : tie.Need-rest-requires
-rest-requires c κs = search needs
+after-requires : tie.Need-after-requires
+after-requires c κs = search needs
 
 load-table-requires : tie.Need-load-table-requires
 load-table-requires c κs =
@@ -67,23 +67,23 @@ load-table-requires c κs =
       (
         start h .pre .1 .1 .0 .0,
         (
-          subst (λ (k : ℕ). a .n * pending-size ≤ k) (sym (ap length (pending-source h (now (c .rest .result)) (c .rest .ensures)))) (pending-whole (now (a .bytes)) (a .last) (a .n) (a .m) (bytes h) (known h)),
+          subst (λ (k : ℕ). a .n * pending-size ≤ k) (sym (ap length (pending-source h (now (c .after .result)) (c .after .ensures)))) (pending-whole (now (a .bytes)) (a .last) (a .n) (a .m) (bytes h) (known h)),
           subst (λ (k : ℕ). k * pending-size ≤ length (now (a .pending))) (sym (start h .pre .1 .1 .0 .1)) (capacity-room pending-size pending-most (now (a .pending))),
         ),
       ),
     )
 
-add-rest-2 : tie.Need-add-rest-2
-add-rest-2 c = let h = c .before .before .before .before .before .before .before .before .before .before .before .before .before in omega (arith, known h .long, h .header-len .ensures)
+add-after-2 : tie.Need-add-after-2
+add-after-2 c = let h = c .before .before .before .before .before .before .before .before .before .before .before .before .before in omega (arith, known h .long, h .header-len .ensures)
 
-mul-rest : tie.Need-mul-rest
-mul-rest c = search needs
+mul-after : tie.Need-mul-after
+mul-after c = search needs
 
-add-rest-3 : tie.Need-add-rest-3
-add-rest-3 c = let h = c .before .before .before .before .before .before .before .before .before .before .before .before .before in omega (arith, known h .long, h .header-len .ensures)
+add-after-3 : tie.Need-add-after-3
+add-after-3 c = let h = c .before .before .before .before .before .before .before .before .before .before .before .before .before in omega (arith, known h .long, h .header-len .ensures)
 
-rest-requires-2 : tie.Need-rest-requires-2
-rest-requires-2 c κs = search needs
+after-requires-2 : tie.Need-after-requires-2
+after-requires-2 c κs = search needs
 
 load-table-requires-2 : tie.Need-load-table-requires-2
 load-table-requires-2 c κs =
@@ -93,7 +93,7 @@ load-table-requires-2 c κs =
       (
         start h .pre .1 .1 .1 .0,
         (
-          subst (λ (k : ℕ). a .m * confirmed-size ≤ k) (sym (ap length (recent-source h (now (c .rest2 .result)) (c .rest2 .ensures)))) (recent-whole (now (a .bytes)) (a .last) (a .n) (a .m) (bytes h) (known h)),
+          subst (λ (k : ℕ). a .m * confirmed-size ≤ k) (sym (ap length (recent-source h (now (c .after2 .result)) (c .after2 .ensures)))) (recent-whole (now (a .bytes)) (a .last) (a .n) (a .m) (bytes h) (known h)),
           subst (λ (k : ℕ). k * confirmed-size ≤ length (now (a .recent))) (sym (start h .pre .1 .1 .1 .1)) (capacity-room confirmed-size confirmed-most (now (a .recent))),
         ),
       ),
@@ -119,8 +119,8 @@ returns c =
     let rows = c .before .before .before .before .before .before .before .before .before .before .before .before .before .before .load-buckets .ensures in
     let p = c .before .before .before .before .before .before .before .load-table in
     let q = c .before .before .load-table2 in
-    let x = pending-source h _ (c .before .before .before .before .before .before .before .before .rest .ensures) in
-    let y = recent-source h _ (c .before .before .before .rest2 .ensures) in
+    let x = pending-source h _ (c .before .before .before .before .before .before .before .before .after .ensures) in
+    let y = recent-source h _ (c .before .before .before .after2 .ensures) in
     let e = h .header-len .ensures in
     stored (now (a .bytes)) (a .last) (a .n) (a .m) (bytes h) (known h) l (p .result) (q .result) _ _ _ _
     (p .ensures .0 ∙ ap (λ (z : List ℕ). length (settled id-of [] (records pending-size (a .n) z))) x)
@@ -136,13 +136,13 @@ store-spec =
     (tie.spec
     header-len-requires
     load-buckets-requires
-    add-rest
-    rest-requires
+    add-after
+    after-requires
     load-table-requires
-    add-rest-2
-    mul-rest
-    add-rest-3
-    rest-requires-2
+    add-after-2
+    mul-after
+    add-after-3
+    after-requires-2
     load-table-requires-2
     same-length
     same-length-2
