@@ -1,4 +1,5 @@
 // The calls that change the estimator.
+use crate::ops::text;
 use crate::replies::Ran;
 use crate::replies::bad;
 use crate::replies::number;
@@ -9,7 +10,6 @@ use kinds::Height;
 use kinds::LeaveAnswer;
 use kinds::StartAnswer;
 use kinds::State;
-use ops::text;
 use print::put;
 use script::hex::Decoded;
 use script::hex::id_in;

@@ -1,9 +1,9 @@
 // The operations on the lent memory itself.
+use crate::ops::text;
 use crate::replies::Ran;
 use crate::replies::bad;
 use crate::replies::silent;
 use kinds::State;
-use ops::text;
 use script::hex::Decoded;
 use script::hex::hex_into;
 use script::sums::double_of;

@@ -1,12 +1,12 @@
 // The history file: written, and read.
 use crate::damage::fill;
+use crate::ops::text;
 use crate::replies::Ran;
 use crate::replies::Reply;
 use crate::replies::number;
 use kinds::ReadAnswer;
 use kinds::State;
 use kinds::WriteAnswer;
-use ops::text;
 use print::put;
 use script::hex::Decoded;
 use script::hex::hex_into;

@@ -6,6 +6,7 @@ mod asks;
 mod calls;
 mod damage;
 mod files;
+mod ops;
 mod replies;
 mod run;
 mod session;

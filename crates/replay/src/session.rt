@@ -3,6 +3,9 @@ use crate::asks::say_sums;
 use crate::asks::say_targets;
 use crate::damage::fill;
 use crate::damage::zero;
+use crate::ops::Lent;
+use crate::ops::Op;
+use crate::ops::parse;
 use crate::replies::Reply;
 use crate::replies::say;
 use crate::replies::say_number;
@@ -11,9 +14,6 @@ use crate::run::run_op;
 use kinds::Last;
 use kinds::State;
 use libc::STDOUT_FILENO;
-use ops::Lent;
-use ops::Op;
-use ops::parse;
 use print::put;
 
 // What a run keeps between two lines.

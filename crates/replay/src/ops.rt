@@ -11,7 +11,7 @@ use script::words::Word;
 use script::words::word_at;
 
 // How much of each table, in bytes, and of each list of counts is lent.
-pub struct Lent {
+pub(crate) struct Lent {
     pub pending: usize,
     pub recent: usize,
     pub confirmed: usize,
@@ -20,14 +20,14 @@ pub struct Lent {
 
 // Bytes that an operation works on, which are still to be read: the ids from a place of the line on; the digits of a word, or none for `-`;
 // the history that was written last.
-pub enum Source {
+pub(crate) enum Source {
     Ids(usize),
     Digits(Word),
     Kept,
 }
 
 // Damage to the memory or the state. A word stands for its digits.
-pub enum Damage {
+pub(crate) enum Damage {
     Pending(usize, Word),
     Recent(usize, Word),
     Confirmed(usize, u64),
@@ -35,20 +35,20 @@ pub enum Damage {
     Becomes(State),
 }
 
-pub enum Call {
+pub(crate) enum Call {
     Start,
     Enter(Word, FeeRate, Height),
     Leave(Word),
 }
 
-pub enum Ask {
+pub(crate) enum Ask {
     Estimate(Blocks),
     Estimates,
     Bucket(FeeRate),
     Sum,
 }
 
-pub enum Op {
+pub(crate) enum Op {
     Bad,
     Nothing,
     Lend(Lent),
@@ -67,7 +67,7 @@ enum Small {
 }
 
 // The bytes of a word.
-pub fn text<'a>(line: &'a [u8], w: Word) -> &'a [u8] {
+pub(crate) fn text<'a>(line: &'a [u8], w: Word) -> &'a [u8] {
     let from = w.from;
     let to = w.to;
     if from <= to {
@@ -353,7 +353,7 @@ fn call_op(line: &[u8], name: &[u8], at: usize) -> Op {
 }
 
 // The operation of a line, which has no LF.
-pub fn parse(line: &[u8]) -> Op {
+pub(crate) fn parse(line: &[u8]) -> Op {
     if line.len() == 0 {
         return Op::Nothing;
     }
