@@ -17,10 +17,11 @@ use Rattle.floats.proofs.Count.{Factor}
 use Rattle.format.specs.File.{Version, history-of}
 use Rattle.format.specs.Calls.{Output, write-call, read-call}
 use Rattle.format.proofs.Refusals.{read-refused}
-use Rattle.meaning.specs.Runs.{Rising, Call, started}
+use Rattle.meaning.specs.Runs.{Rising, singly, Call, started}
 use Rattle.meaning.proofs.Leading.{Comes, comes-start, comes-after}
 use Rattle.meaning.proofs.Meaning.{meant}
 use Rattle.meaning.proofs.Answered.{answers-of}
+use Rattle.meaning.proofs.Success.{success}
 use Rattle.runs.specs.Lives.{Ask, start, change, estimate, write, read, Life, goes-on, begun, next, lives, TypedAsk, TypedAsks, Aside, AsidePromise, Lived, LifePromise}
 
 -- ---- what changes nothing
@@ -110,7 +111,11 @@ module _ (v : Version) (k : Board) (law : Lawful k) where
 
   lived : Factor (k .decay) → (y : Life) → Known k y → y .is-fresh ≡ true → Rising (y .held .log) → Lived k (y .held)
   lived d y (other e) f r = absurd (true≢false (sym f ∙ e))
-  lived d y (known m c) f r = record { meant = meant k law m (y .held) c r; answered = answers-of k law d m (y .held) c r }
+  lived d y (known m c) f r = record {
+    meant = meant k law m (y .held) c r;
+    answered = answers-of k law d m (y .held) c r;
+    success = success k d (singly (y .held .log)) (y .held) (meant k law m (y .held) c r);
+  }
 
   pub life-promise : Factor (k .decay) → LifePromise v k
   unfolding LifePromise
