@@ -8,7 +8,7 @@ use native.Mathlib.Omega.{arith}
 use lib.Dec.{T, eqb, lit<}
 use lib.Ieee.{Float, binary64, mul, le}
 use Rattle.rules.specs.Lists.{bit}
-use Rattle.rules.specs.Counts.{nought, one-more}
+use Rattle.rules.specs.Counts.{one-more}
 use Rattle.rules.specs.Board.{Board}
 use Rattle.floats.proofs.Count.{Factor, factor-unsigned}
 use Rattle.floats.proofs.Unsigned.{le-trans, mul-mono}
@@ -28,16 +28,16 @@ pub record Ordered (n : ℕ) (x y : Float) : Type 0 where
 ones-tame : (n : ℕ) (x : Float) → Tame 1 x → Tame 1 (ones n x)
 unfolding ones
 ones-tame zero x t = t
-ones-tame (suc n) x t = one-more-tame (ones n x) (ones-tame n x t)
+ones-tame (suc n) x t = one-more-tame (ones-tame n x t)
 
 ones-mono : (m n : ℕ) (x y : Float) → Ordered 1 x y → m ≤ n → T (le (ones m x) (ones n y))
 unfolding ones
 ones-mono zero zero x y q h = q .order
 ones-mono zero (suc n) x y q h =
     let t : Tame 1 (ones n y) = ones-tame n y (q .resolved) in
-    le-trans x (ones n y) (one-more (ones n y)) (q .confirmed .no-sign) (t .no-sign) (one-more-tame (ones n y) t .no-sign) (ones-mono zero n x y q zero-le) (one-more-grows (ones n y) t)
+    le-trans (q .confirmed .no-sign) (t .no-sign) (one-more-tame t .no-sign) (ones-mono zero n x y q zero-le) (one-more-grows t)
 ones-mono (suc m) zero x y q h = absurd (not-suc-le-zero h)
-ones-mono (suc m) (suc n) x y q h = one-more-mono (ones m x) (ones n y) (ones-tame m x (q .confirmed)) (ones-tame n y (q .resolved)) (ones-mono m n x y q (le-of-suc-le-suc h))
+ones-mono (suc m) (suc n) x y q h = one-more-mono (ones-tame m x (q .confirmed)) (ones-tame n y (q .resolved)) (ones-mono m n x y q (le-of-suc-le-suc h))
 
 -- ---- two counts, the one with no more ones than the other at every height
 
@@ -47,9 +47,9 @@ module _ (k : Board) (d : Factor (k .decay)) (m n : ℕ → ℕ) (fewer : (h : �
       let t : Tame 1 (ones (m h) x) = ones-tame (m h) x (q .confirmed) in
       let u : Tame 1 (ones (n h) y) = ones-tame (n h) y (q .resolved) in
       record {
-        confirmed = decay-tame 1 (ones (m h) x) (k .decay) (lit< tt) d t;
-        resolved = decay-tame 1 (ones (n h) y) (k .decay) (lit< tt) d u;
-        order = mul-mono (ones (m h) x) (ones (n h) y) (k .decay) (t .no-sign) (u .no-sign) (factor-unsigned (k .decay) d) (ones-mono (m h) (n h) x y q (fewer h));
+        confirmed = decay-tame (lit< tt) d t;
+        resolved = decay-tame (lit< tt) d u;
+        order = mul-mono (t .no-sign) (u .no-sign) (factor-unsigned d) (ones-mono (m h) (n h) x y q (fewer h));
       }
 
   stored-ordered : (l : Log) → Ordered 1 (stored k m l) (stored k n l)

@@ -1,9 +1,8 @@
 -- Success between none and all: every stored count is what the log makes, where confirmed is not above resolved; so it is with the sums at each bucket, and their
 -- ratio lies from 0.0 to 1.0. Assumes nothing.
 use mathlib.Core.Path.{_≡_, refl, sym, ap, ap₂, _∙_, subst}
-use mathlib.Core.Bool.{true}
 use mathlib.Core.List.{List, [], _∷_}
-use Prim.Native.Nat.{ℕ, zero, suc, _+_, _-_, _*_, _^_, _≤_, _<_}
+use Prim.Native.Nat.{ℕ, zero, suc, _+_, _-_, _*_, _≤_, _<_}
 use native.Mathlib.Nat.{le-of-eq, not-suc-le-zero}
 use native.Mathlib.Numerals.{add-one}
 use native.Mathlib.Omega.{arith}
@@ -13,11 +12,11 @@ use lib.Seq.{drop-cons, getD-drop}
 use lib.Ieee.{Float, binary64, div, le}
 use lib.Ieee.Positive.{num, den-pos}
 use Rattle.rules.specs.Ladder.{buckets}
-use Rattle.rules.specs.Counts.{Counts, columns, nought, one, sound-count, cell}
+use Rattle.rules.specs.Counts.{Counts, columns, nought, cell}
 use Rattle.rules.specs.Board.{Board, Lawful}
 use Rattle.rules.specs.Estimate.{column, Sums, add-bucket, sums-down-to, rate-in-column}
 use Rattle.floats.proofs.Count.{Factor}
-use Rattle.floats.proofs.Unsigned.{unsigned-sound, le→cross, add-mono}
+use Rattle.floats.proofs.Unsigned.{unsigned-one, unsigned-sound, le→cross, add-mono}
 use Rattle.floats.proofs.Tame.{nought-tame, add-tame}
 use Rattle.floats.proofs.Ratio.{Ratio, ratio}
 use Rattle.meaning.specs.Runs.{Log, singly, Held, calls}
@@ -65,9 +64,9 @@ In-order n s = Ordered n (s .confirmed) (s .resolved)
 bucket-more : (n b : ℕ) (x y : Float) (s : Sums) → n < buckets → Ordered 1 x y → In-order n s → In-order (suc n) (add-bucket b x y s)
 unfolding add-bucket
 bucket-more n b x y s h q i = subst (λ (m : ℕ). In-order m (add-bucket b x y s)) (add-one n) (record {
-  confirmed = add-tame n 1 (s .confirmed) x (omega arith) (i .confirmed) (q .confirmed);
-  resolved = add-tame n 1 (s .resolved) y (omega arith) (i .resolved) (q .resolved);
-  order = add-mono (s .confirmed) x (s .resolved) y (i .confirmed .no-sign) (q .confirmed .no-sign) (i .resolved .no-sign) (q .resolved .no-sign) (i .order) (q .order);
+  confirmed = add-tame (omega arith) (i .confirmed) (q .confirmed);
+  resolved = add-tame (omega arith) (i .resolved) (q .resolved);
+  order = add-mono (i .confirmed .no-sign) (q .confirmed .no-sign) (i .resolved .no-sign) (q .resolved .no-sign) (i .order) (q .order);
 })
 
 module _ (c : ℕ) (confirmed resolved : Counts) (in-order : (b : ℕ) → b < buckets → Ordered 1 (cell confirmed b c) (cell resolved b c)) where
@@ -90,16 +89,16 @@ module _ (c : ℕ) (confirmed resolved : Counts) (in-order : (b : ℕ) → b < b
   unfolding RatioWithin
   ratio-within b h t =
       let q : In-order (buckets - b) (at b) = sums-ordered (buckets - b) b (omega arith) in
-      let above : 0 < num (at b .resolved) = omega (arith, le→cross one (at b .resolved) tt (q .resolved .no-sign) t, den-pos (at b .resolved)) in
-      let r : Ratio (div binary64 (at b .confirmed) (at b .resolved)) = ratio (at b .confirmed) (at b .resolved) (q .confirmed .no-sign) (q .resolved .no-sign) above (q .order) in
+      let above : 0 < num (at b .resolved) = omega (arith, le→cross unsigned-one (q .resolved .no-sign) t, den-pos (at b .resolved)) in
+      let r : Ratio (div binary64 (at b .confirmed) (at b .resolved)) = ratio (q .confirmed .no-sign) (q .resolved .no-sign) above (q .order) in
       (r .least, r .most)
 
 -- ---- the promise
 
 between : (x y : Float) → Ordered 1 x y → Between x y
 between x y q = record {
-  confirmed-sound = subst T (sym (unsigned-sound x (q .confirmed .no-sign))) tt;
-  resolved-sound = subst T (sym (unsigned-sound y (q .resolved .no-sign))) tt;
+  confirmed-sound = subst T (sym (unsigned-sound (q .confirmed .no-sign))) tt;
+  resolved-sound = subst T (sym (unsigned-sound (q .resolved .no-sign))) tt;
   order = q .order;
 }
 
