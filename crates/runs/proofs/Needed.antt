@@ -1,30 +1,25 @@
 -- Why each premise is needed: without it the stored counts are not what the log makes, in three runs of the calls' definitions, computed; nor is success between
 -- none and all; and the cause of the third. Assumes nothing.
-use Prim.Native.Nat.{ℕ, suc, _-_, _≤_}
-use native.Mathlib.Omega.{arith}
-use borrow.Author.Tests.{le-ltb}
-use Rattle.kinds.specs.declared.Height.{Height}
 use mathlib.Core.Path.{_≡_, sym, ap, _∙_, subst}
 use mathlib.Core.Bool.{not}
 use mathlib.Core.List.{List, [], _∷_, _++_}
+use Prim.Native.Nat.{ℕ, suc, _-_, _≤_}
+use native.Mathlib.Omega.{arith}
+use borrow.Author.Tests.{le-ltb}
 use lib.Dec.{T, eqb, eqb-refl, eqb→eq, T-not, lit<, lit≤}
-use lib.Ieee.{Float, binary64, round, add, mul, div, lt, le as at-most, toBits}
+use lib.Ieee.{Float, binary64, add, mul, div, le, toBits}
+use Rattle.kinds.specs.declared.Height.{Height}
 use Rattle.kinds.specs.declared.Last.the-variants.{At}
-use Rattle.rules.specs.Lists.{count, any, every, keep, insert, places}
-use Rattle.rules.specs.Ids.{Id, same, below, rising, dropped, placed}
-use Rattle.rules.specs.Ladder.{ladder, last-not-above, bucket-index}
-use Rattle.rules.specs.Counts.{columns, decimal, nought, one, cell, gain, apply-decay, finite, sound-count}
-use Rattle.rules.specs.Bytes.{le, bytes}
-use Rattle.rules.specs.Board.{Board, base, in-range, pending-bytes, pending-of, confirmed-bytes, confirmed-of}
-use Rattle.rules.specs.Records.{records, joined, all-zero, sound-table, laid}
-use Rattle.rules.specs.Estimator.{Estimator, fresh, is-pending, find, holds, admit, tx-left, record-confirmation, expire-targets, advance-height, advances, advance-heights, skip-heights, confirm, confirm-all, finish-block, block-connected}
-use Rattle.rules.specs.Memory.{pending-records, confirmed-records, lay-pending, lay-confirmed, sound-pending, sound-confirmed, sound-counts, sound, view, state-of, lay}
-use Rattle.rules.specs.Calls.{start-call, enter-call, leave-call, gap, ids-of, pending-listings, block-call}
-use Rattle.rules.specs.Estimate.{column, passes, Sums, add-bucket, sums-down-to}
+use Rattle.rules.specs.Ids.{Id}
+use Rattle.rules.specs.Counts.{columns, decimal, nought, one, cell}
+use Rattle.rules.specs.Board.{Board, base}
+use Rattle.rules.specs.Estimator.{Estimator, advances, advance-heights, skip-heights, confirm-all, finish-block, block-connected}
+use Rattle.rules.specs.Estimate.{Sums}
 use Rattle.rules.proofs.Edge.{id}
-use Rattle.meaning.specs.Runs.{Call, last-of, Above, Rising, empties, skipped, singly, event-of, Held, outcome-of, noted, begin, after, after-all, started, calls}
-use Rattle.meaning.specs.Fates.{admissions, lists, reached, within, verdict, settle, fate, fate-of, Kind, in-resolved, in-confirmed, of-kind, counted-at, counts-in, tally, ones, stored, count-of, Meant}
+use Rattle.meaning.specs.Runs.{begin, Rising, singly, Call, Held, after-all, started, calls}
+use Rattle.meaning.specs.Fates.{Kind, in-resolved, in-confirmed, count-of, Meant}
 use Rattle.meaning.specs.Success.{sums-at, RatioWithin, Success}
+use Rattle.meaning.proofs.Computed.{runs, logs}
 use Rattle.runs.proofs.Witness.{dirty, enters, connects}
 
 -- both counts of a kind for bucket 33 and column c, as their patterns: what is stored, and what the log makes
@@ -57,7 +52,7 @@ again = calls base dirty (enters 1 5000 100 ∷ connects (id 1) 101 ∷ enters 2
 
 -- 0.998 + 1.0, where two blocks of 101 would make (2 * 0.998 + 2) * 0.998
 pub again-breaks : Breaks in-confirmed again 1 (decimal 1998 1000) (mul binary64 (add binary64 (decimal 1996 1000) (decimal 2 1)) (decimal 998 1000))
-unfolding round add mul lt toBits count any every keep insert places same below rising dropped placed ladder last-not-above bucket-index gain apply-decay finite sound-count bytes le in-range pending-bytes pending-of confirmed-bytes confirmed-of records joined all-zero sound-table laid fresh is-pending find holds admit tx-left record-confirmation expire-targets advance-height advances advance-heights skip-heights confirm confirm-all finish-block block-connected pending-records confirmed-records lay-pending lay-confirmed sound-pending sound-confirmed sound-counts sound view state-of lay start-call enter-call leave-call gap ids-of pending-listings block-call event-of outcome-of noted after after-all started calls last-of empties skipped singly admissions lists reached within verdict settle fate fate-of of-kind counted-at counts-in tally ones stored count-of
+unfolding runs logs
 again-breaks = record { stores = tt; expected = tt; differ = tt }
 
 pub again-is-not-meant : Meant base (singly (again .log)) again → ⊥
@@ -69,7 +64,7 @@ back = calls base dirty (enters 1 5000 100 ∷ connects [] 105 ∷ connects (id 
 
 -- counted confirmed, long after it was counted resolved
 pub back-breaks : Breaks in-confirmed back 3 (decimal 1 1) nought
-unfolding round add mul lt toBits count any every keep insert places same below rising dropped placed ladder last-not-above bucket-index gain apply-decay finite sound-count bytes le in-range pending-bytes pending-of confirmed-bytes confirmed-of records joined all-zero sound-table laid fresh is-pending find holds admit tx-left record-confirmation expire-targets advance-height advances advance-heights skip-heights confirm confirm-all finish-block block-connected pending-records confirmed-records lay-pending lay-confirmed sound-pending sound-confirmed sound-counts sound view state-of lay start-call enter-call leave-call gap ids-of pending-listings block-call event-of outcome-of noted after after-all started calls last-of empties skipped singly admissions lists reached within verdict settle fate fate-of of-kind counted-at counts-in tally ones stored count-of
+unfolding runs logs
 back-breaks = record { stores = tt; expected = tt; differ = tt }
 
 pub back-is-not-meant : Meant base (singly (back .log)) back → ⊥
@@ -81,11 +76,11 @@ back-is-not-meant = broken in-confirmed back 3 _ _ back-breaks (lit≤ tt) (lit�
 pub record Exceeds (x : Held) (c : ℕ) (confirmed resolved : Float) : Type 0 where
   pub confirmed-is : T (eqb (stored-in in-confirmed x c) (toBits binary64 confirmed))
   pub resolved-is : T (eqb (stored-in in-resolved x c) (toBits binary64 resolved))
-  pub not-in-order : T (not (at-most (cell (x .memory .confirmed) 33 c) (cell (x .memory .resolved) 33 c)))
+  pub not-in-order : T (not (le (cell (x .memory .confirmed) 33 c) (cell (x .memory .resolved) 33 c)))
 
 -- the targets that height 105 resolved and block 103 confirmed
 pub back-exceeds : Exceeds back 3 (decimal 1 1) (decimal 998 1000) × (Exceeds back 4 (decimal 1 1) (decimal 998 1000) × Exceeds back 5 (decimal 1 1) (decimal 998 1000))
-unfolding round add mul lt toBits count any every keep insert places same below rising dropped placed ladder last-not-above bucket-index gain apply-decay finite sound-count bytes le in-range pending-bytes pending-of confirmed-bytes confirmed-of records joined all-zero sound-table laid fresh is-pending find holds admit tx-left record-confirmation expire-targets advance-height advances advance-heights skip-heights confirm confirm-all finish-block block-connected pending-records confirmed-records lay-pending lay-confirmed sound-pending sound-confirmed sound-counts sound view state-of lay start-call enter-call leave-call gap ids-of pending-listings block-call event-of outcome-of noted after after-all started calls at-most
+unfolding runs
 back-exceeds = (
   record { confirmed-is = tt; resolved-is = tt; not-in-order = tt },
   (
@@ -95,7 +90,7 @@ back-exceeds = (
 )
 
 pub back-is-no-success : Success (back .memory .confirmed) (back .memory .resolved) → ⊥
-back-is-no-success s = T-not (at-most (cell (back .memory .confirmed) 33 3) (cell (back .memory .resolved) 33 3)) (back-exceeds .0 .not-in-order) (s .counts 33 3 (lit< tt) (lit≤ tt) (lit≤ tt) .order)
+back-is-no-success s = T-not (le (cell (back .memory .confirmed) 33 3) (cell (back .memory .resolved) 33 3)) (back-exceeds .0 .not-in-order) (s .counts 33 3 (lit< tt) (lit≤ tt) (lit≤ tt) .order)
 
 -- with two such ids the resolved sum is above 1.0, and the estimate forms the ratio 2.0 over 1.996
 abbrev both-back : Held
@@ -107,16 +102,16 @@ sums-back = sums-at 33 3 (both-back .memory .confirmed) (both-back .memory .reso
 pub record RatioAbove (s : Sums) (confirmed resolved : Float) : Type 0 where
   pub confirmed-is : T (eqb (toBits binary64 (s .confirmed)) (toBits binary64 confirmed))
   pub resolved-is : T (eqb (toBits binary64 (s .resolved)) (toBits binary64 resolved))
-  pub formed : T (at-most one (s .resolved))
-  pub above : T (not (at-most (div binary64 (s .confirmed) (s .resolved)) one))
+  pub formed : T (le one (s .resolved))
+  pub above : T (not (le (div binary64 (s .confirmed) (s .resolved)) one))
 
 pub ratio-back : RatioAbove sums-back (decimal 2 1) (decimal 1996 1000)
-unfolding round add mul lt toBits count any every keep insert places same below rising dropped placed ladder last-not-above bucket-index gain apply-decay finite sound-count bytes le in-range pending-bytes pending-of confirmed-bytes confirmed-of records joined all-zero sound-table laid fresh is-pending find holds admit tx-left record-confirmation expire-targets advance-height advances advance-heights skip-heights confirm confirm-all finish-block block-connected pending-records confirmed-records lay-pending lay-confirmed sound-pending sound-confirmed sound-counts sound view state-of lay start-call enter-call leave-call gap ids-of pending-listings block-call event-of outcome-of noted after after-all started calls at-most div sums-at column add-bucket sums-down-to passes
+unfolding runs sums-at
 ratio-back = record { confirmed-is = tt; resolved-is = tt; formed = tt; above = tt }
 
 pub ratio-is-no-success : Success (both-back .memory .confirmed) (both-back .memory .resolved) → ⊥
 unfolding RatioWithin
-ratio-is-no-success s = T-not (at-most (div binary64 (sums-back .confirmed) (sums-back .resolved)) one) (ratio-back .above) (s .ratios 33 3 (lit< tt) (lit≤ tt) (lit≤ tt) (ratio-back .formed) .1)
+ratio-is-no-success s = T-not (le (div binary64 (sums-back .confirmed) (sums-back .resolved)) one) (ratio-back .above) (s .ratios 33 3 (lit< tt) (lit≤ tt) (lit≤ tt) (ratio-back .formed) .1)
 
 -- ---- no fresh start: the incident
 
@@ -140,12 +135,12 @@ incident = after-all base next-block (restored 1000000)
 
 -- resolved for target 1: only the one that was confirmed, where the log has both
 pub incident-breaks : Breaks in-resolved incident 1 (decimal 1 1) (decimal 1996 1000)
-unfolding round add mul lt toBits count any every keep insert places same below rising dropped placed ladder last-not-above bucket-index gain apply-decay finite sound-count bytes le in-range pending-bytes pending-of confirmed-bytes confirmed-of records joined all-zero sound-table laid fresh is-pending find holds admit tx-left record-confirmation expire-targets advance-height advances advance-heights skip-heights confirm confirm-all finish-block block-connected pending-records confirmed-records lay-pending lay-confirmed sound-pending sound-confirmed sound-counts sound view state-of lay start-call enter-call leave-call gap ids-of pending-listings block-call event-of outcome-of noted after after-all started calls last-of empties skipped singly admissions lists reached within verdict settle fate fate-of of-kind counted-at counts-in tally ones stored count-of
+unfolding runs logs
 incident-breaks = record { stores = tt; expected = tt; differ = tt }
 
 -- though its blocks rise
 pub incident-rises : Rising (incident .log)
-unfolding round add mul lt toBits count any every keep insert places same below rising dropped placed ladder last-not-above bucket-index gain apply-decay finite sound-count bytes le in-range pending-bytes pending-of confirmed-bytes confirmed-of records joined all-zero sound-table laid fresh is-pending find holds admit tx-left record-confirmation expire-targets advance-height advances advance-heights skip-heights confirm confirm-all finish-block block-connected pending-records confirmed-records lay-pending lay-confirmed sound-pending sound-confirmed sound-counts sound view state-of lay start-call enter-call leave-call gap ids-of pending-listings block-call event-of outcome-of noted after after-all started calls Rising last-of Above
+unfolding runs
 incident-rises = (tt, tt)
 
 pub incident-is-not-meant : Meant base (singly (incident .log)) incident → ⊥

@@ -6,20 +6,16 @@ use mathlib.Core.Bool.{Bool, _&&_}
 use mathlib.Core.List.{List, [], _∷_, _++_}
 use lib.Dec.{T}
 use lib.ListN.{replicate}
-use lib.Ieee.{Float, nan, binary64, round, add, mul, lt, toBits}
+use lib.Ieee.{Float, nan, binary64, mul}
 use Rattle.kinds.specs.declared.Last.the-variants.{At}
-use Rattle.rules.specs.Lists.{count, any, every, keep, insert, places}
-use Rattle.rules.specs.Ids.{same, below, rising, dropped, placed}
-use Rattle.rules.specs.Ladder.{ladder, last-not-above, bucket-index}
-use Rattle.rules.specs.Counts.{decimal, gain, apply-decay, finite, sound-count}
-use Rattle.rules.specs.Bytes.{le, bytes}
-use Rattle.rules.specs.Board.{base, in-range, pending-bytes, pending-of, confirmed-bytes, confirmed-of}
-use Rattle.rules.specs.Records.{records, joined, all-zero, sound-table, laid}
-use Rattle.rules.specs.Estimator.{fresh, is-pending, find, holds, admit, tx-left, record-confirmation, expire-targets, advance-height, advances, advance-heights, skip-heights, confirm, confirm-all, finish-block, block-connected}
-use Rattle.rules.specs.Memory.{Lent, lent, pending-records, confirmed-records, lay-pending, lay-confirmed, sound-pending, sound-confirmed, sound-counts, sound, view, state-of, lay}
-use Rattle.rules.specs.Calls.{start-call, enter-call, leave-call, gap, ids-of, pending-listings, block-call}
+use Rattle.rules.specs.Ids.{same}
+use Rattle.rules.specs.Counts.{decimal}
+use Rattle.rules.specs.Bytes.{bytes}
+use Rattle.rules.specs.Board.{base}
+use Rattle.rules.specs.Memory.{Lent, lent}
 use Rattle.rules.proofs.Edge.{id, same-counts, only}
-use Rattle.meaning.specs.Runs.{arrival, removal, block, Log, begin, _▸_, Call, enter, leave, connect, event-of, Held, outcome-of, noted, after, after-all, started, calls}
+use Rattle.meaning.specs.Runs.{arrival, removal, block, Log, begin, _▸_, Call, enter, leave, connect, Held, outcome-of, after, started, calls}
+use Rattle.meaning.proofs.Computed.{runs}
 
 abbrev pub dirty : Lent
 dirty = lent (replicate 3551 nan) (replicate 3550 nan) (replicate 100 7) (replicate 80 9)
@@ -83,9 +79,9 @@ pub record Ran (x : Held) : Type 0 where
 
 -- AlreadyPending, PendingFull, Absent, BadList, GapTooWide, ConfirmedFull, each refused where it must be
 pub answered : answers asked (started base dirty) ≡ 0 ∷ 2 ∷ 0 ∷ 3 ∷ 4 ∷ 0 ∷ 5 ∷ 0 ∷ 0 ∷ 6 ∷ 0 ∷ 0 ∷ 7 ∷ []
-unfolding round add mul lt toBits count any every keep insert places same below rising dropped placed ladder last-not-above bucket-index gain apply-decay finite sound-count bytes le in-range pending-bytes pending-of confirmed-bytes confirmed-of records joined all-zero sound-table laid fresh is-pending find holds admit tx-left record-confirmation expire-targets advance-height advances advance-heights skip-heights confirm confirm-all finish-block block-connected pending-records confirmed-records lay-pending lay-confirmed sound-pending sound-confirmed sound-counts sound view state-of lay start-call enter-call leave-call gap ids-of pending-listings block-call event-of outcome-of noted after after-all started calls answers
+unfolding runs answers
 answered = refl
 
 pub ran : Ran (calls base dirty asked)
-unfolding round add mul lt toBits count any every keep insert places same below rising dropped placed ladder last-not-above bucket-index gain apply-decay finite sound-count bytes le in-range pending-bytes pending-of confirmed-bytes confirmed-of records joined all-zero sound-table laid fresh is-pending find holds admit tx-left record-confirmation expire-targets advance-height advances advance-heights skip-heights confirm confirm-all finish-block block-connected pending-records confirmed-records lay-pending lay-confirmed sound-pending sound-confirmed sound-counts sound view state-of lay start-call enter-call leave-call gap ids-of pending-listings block-call event-of outcome-of noted after after-all started calls same-counts only left-so
+unfolding runs left-so
 ran = record { log-is = refl; state-is = refl; memory-is = tt }
