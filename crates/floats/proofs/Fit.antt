@@ -71,7 +71,7 @@ at-most-largest s (suc m) e f = top-le (suc m) e (fit s m e f)
 exact-zero : (f : Format) (e : ℤ) → HasValue (round f false (0 * up e) (down e)) false (0 * up e) (down e)
 exact-zero f e = round-exact f false (0 * up e) (down e) 0 0 (down-pos e) (pow-pos (prec f)) (pow-pos (low f + suc (emax f))) (omega arith)
 
-exact-pos : (f : Format) (m k : ℕ) → m < 2 ^ prec f → m * 2 ^ k < 2 ^ suc (emax f) * 1 → HasValue (round f false (m * 2 ^ k) 1) false (m * 2 ^ k) 1
+pub exact-pos : (f : Format) (m k : ℕ) → m < 2 ^ prec f → m * 2 ^ k < 2 ^ suc (emax f) * 1 → HasValue (round f false (m * 2 ^ k) 1) false (m * 2 ^ k) 1
 exact-pos f m k a b =
     let split : m * 2 ^ (k + low f) ≡ m * (2 ^ k * 2 ^ low f) = ap (λ (x : ℕ). m * x) (pow-add 2 k (low f)) in
     round-exact f false (m * 2 ^ k) 1 m (k + low f) (zero-lt-suc 0) a

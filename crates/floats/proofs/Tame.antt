@@ -2,18 +2,19 @@
 -- sum lies within the sum of the bounds, far from infinity. Assumes nothing.
 use mathlib.Core.Path.{_≡_, refl, sym, ap, subst}
 use mathlib.Core.Bool.{false}
-use Prim.Native.Nat.{ℕ, suc, _+_, _*_, _^_, _≤_, _<_, zero-le}
+use Prim.Native.Nat.{ℕ, _+_, _*_, _^_, _≤_, _<_, zero-le}
 use native.Mathlib.Nat.{lt-of-lt-of-le, zero-lt-suc, mul-le-mul-right, mul-pos, le-of-mul-le-mul-right}
 use native.Mathlib.Omega.{arith}
 use lib.IntN.{pos}
 use lib.Dec.{T, lit≤}
-use lib.Pow.{pow-mono, pow-add, shl-lt}
-use lib.Ieee.{Float, Format, binary64, prec, emax, low, round, fits, add, mul, le}
+use lib.Pow.{shl-lt}
+use lib.Ieee.{Float, binary64, round, fits, add, mul, le}
 use lib.Ieee.Fits.{round-fits}
-use lib.Ieee.Exact.{HasValue, round-exact}
+use lib.Ieee.Exact.{HasValue}
 use lib.Ieee.Order.{round-mono}
 use lib.Ieee.Positive.{num, den, den-pos, value→cross}
 use Rattle.rules.specs.Counts.{nought, one, one-more}
+use Rattle.floats.proofs.Fit.{exact-pos}
 use Rattle.floats.proofs.Count.{Factor, factor-unsigned, times-bound}
 use Rattle.floats.proofs.Unsigned.{Unsigned, number, unsigned-one, unsigned-of-value, le→cross, rounds-unsigned, add-is, mul-is, add-mono, one-more-le}
 
@@ -44,15 +45,9 @@ round-tame n b d v D a c C h =
       most = cancel (num z) (num top) (n * 2 ^ 53) (den top) (den z) (den-pos top) (value→cross top (n * 2 ^ 53) 1 v) (le→cross w u (round-mono binary64 a c b d C D h));
     }
 
--- n times 2 ^ 53 itself
-multiple : (f : Format) (n p : ℕ) → p + prec f ≤ suc (emax f) → n < 2 ^ prec f → HasValue (round f false (n * 2 ^ p) 1) false (n * 2 ^ p) 1
-multiple f n p r h =
-    round-exact f false (n * 2 ^ p) 1 n (p + low f) (zero-lt-suc 0) h
-    (lt-of-lt-of-le (shl-lt (prec f) (p + low f) h) (pow-mono (omega arith)))
-    (omega (arith, ap (λ (x : ℕ). n * x) (pow-add 2 p (low f))))
-
+-- n times 2 ^ 53 itself, which fits
 within : (n : ℕ) → n < 2 ^ 53 → (a c : ℕ) → 0 < c → a ≤ n * 2 ^ 53 * c → Tame n (round binary64 false a c)
-within n s a c C h = round-tame n (n * 2 ^ 53) 1 (multiple binary64 n 53 (lit≤ tt) s) (zero-lt-suc 0) a c C (omega arith)
+within n s a c C h = round-tame n (n * 2 ^ 53) 1 (exact-pos binary64 n 53 s (lt-of-lt-of-le (shl-lt 53 53 s) (lit≤ tt))) (zero-lt-suc 0) a c C (omega arith)
 
 -- and 2 ^ 53 + 1, which rounds to 2 ^ 53
 one-over : HasValue (round binary64 false (2 ^ 53 + 1) 1) false (1 * 2 ^ 53) 1

@@ -8,7 +8,6 @@ use native.Mathlib.Omega.{arith}
 use lib.Dec.{T, eqb, lit<}
 use lib.Ieee.{Float, binary64, mul, le}
 use Rattle.rules.specs.Lists.{bit}
-use Rattle.rules.specs.Counts.{one-more}
 use Rattle.rules.specs.Board.{Board}
 use Rattle.floats.proofs.Count.{Factor, factor-unsigned}
 use Rattle.floats.proofs.Unsigned.{le-trans, mul-mono}
@@ -61,24 +60,23 @@ module _ (k : Board) (d : Factor (k .decay)) (m n : ℕ → ℕ) (fewer : (h : �
 
 -- ---- confirmed and resolved
 
+and-mono : (a b c : Bool) → bit b ≤ bit c → bit (a && b) ≤ bit (a && c)
+and-mono true b c h = h
+and-mono false b c h = zero-le
+
+at-most-true : (b : Bool) → bit b ≤ bit true
+at-most-true true = omega arith
+at-most-true false = omega arith
+
 confirmed-resolved : (h : ℕ) (f : Fate) → bit (counted-at in-confirmed h f) ≤ bit (counted-at in-resolved h f)
 unfolding counted-at of-kind
 confirmed-resolved h undecided = zero-le
 confirmed-resolved h withdrawn = zero-le
-confirmed-resolved h (counted g y) = go (eqb g h) y
-  where
-    go : (a c : Bool) → bit (a && c) ≤ bit (a && true)
-    go true true = omega arith
-    go true false = omega arith
-    go false c = omega arith
-
-in-bucket : (a b c : Bool) → bit b ≤ bit c → bit (a && b) ≤ bit (a && c)
-in-bucket true b c h = h
-in-bucket false b c h = zero-le
+confirmed-resolved h (counted g y) = and-mono (eqb g h) y true (at-most-true y)
 
 tally-le : (k : Board) (xs : List Admission) (b c h : ℕ) → tally in-confirmed k xs b c h ≤ tally in-resolved k xs b c h
 unfolding tally counts-in
-tally-le k xs b c h = count-le (counts-in in-confirmed k b c h) (counts-in in-resolved k b c h) (λ a. in-bucket (eqb b (a .bucket)) _ _ (confirmed-resolved h (fate-of k c a))) xs
+tally-le k xs b c h = count-le (counts-in in-confirmed k b c h) (counts-in in-resolved k b c h) (λ a. and-mono (eqb b (a .bucket)) _ _ (confirmed-resolved h (fate-of k c a))) xs
 
 pub counts-ordered : (k : Board) → Factor (k .decay) → (l : Log) (b c : ℕ) → Ordered 1 (count-of in-confirmed k l b c) (count-of in-resolved k l b c)
 unfolding count-of

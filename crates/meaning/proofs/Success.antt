@@ -6,6 +6,7 @@ use Prim.Native.Nat.{ℕ, zero, suc, _+_, _-_, _*_, _≤_, _<_}
 use native.Mathlib.Nat.{le-of-eq, not-suc-le-zero}
 use native.Mathlib.Numerals.{add-one}
 use native.Mathlib.Omega.{arith}
+use borrow.Author.Tests.{ne-eqb}
 use lib.Dec.{T}
 use lib.ListN.{length, drop, getD, drop-of-length-le}
 use lib.Seq.{drop-cons, getD-drop}
@@ -14,7 +15,7 @@ use lib.Ieee.Positive.{num, den-pos}
 use Rattle.rules.specs.Ladder.{buckets}
 use Rattle.rules.specs.Counts.{Counts, columns, nought, cell}
 use Rattle.rules.specs.Board.{Board, Lawful}
-use Rattle.rules.specs.Estimate.{column, Sums, add-bucket, sums-down-to, rate-in-column}
+use Rattle.rules.specs.Estimate.{column-of, column, Sums, add-bucket, sums-down-to, rate-in-column, estimate}
 use Rattle.floats.proofs.Count.{Factor}
 use Rattle.floats.proofs.Unsigned.{unsigned-one, unsigned-sound, le→cross, add-mono}
 use Rattle.floats.proofs.Tame.{nought-tame, add-tame}
@@ -23,6 +24,7 @@ use Rattle.meaning.specs.Runs.{Log, singly, Held, calls}
 use Rattle.meaning.specs.Fates.{Meant, Promise}
 use Rattle.meaning.specs.Success.{Between, sums-at, Walk, WalkPromise, RatioWithin, Success, SuccessPromise}
 use Rattle.meaning.proofs.Meaning.{promise}
+use Rattle.meaning.proofs.Estimates.{low, high}
 use Rattle.meaning.proofs.Ordered.{Ordered, counts-ordered}
 
 -- ---- the walk
@@ -48,12 +50,12 @@ column-from c b xs h =
 column-ends : (c : ℕ) (xs : Counts) → drop buckets (column buckets c xs) ≡ []
 column-ends c xs = drop-of-length-le (column buckets c xs) (le-of-eq (column-length buckets c xs))
 
-pub walk : WalkPromise
-unfolding WalkPromise sums-at sums-down-to rate-in-column
-walk c confirmed resolved = record {
-  begins = ap₂ (λ (xs ys : List Float). sums-down-to buckets xs ys) (column-ends c confirmed) (column-ends c resolved);
+pub walk : (k : Board) → WalkPromise k
+unfolding WalkPromise sums-at sums-down-to estimate rate-in-column
+walk k target confirmed resolved = let c = column-of k target in record {
   goes-down = λ b h. ap₂ (λ (xs ys : List Float). sums-down-to b xs ys) (column-from c b confirmed h) (column-from c b resolved h);
-  ends = refl;
+  begins = ap₂ (λ (xs ys : List Float). sums-down-to buckets xs ys) (column-ends c confirmed) (column-ends c resolved);
+  ends = λ h. rw (ne-eqb target 0 (λ z. omega arith));
 }
 
 -- ---- the sums, and their ratio
@@ -69,13 +71,14 @@ bucket-more n b x y s h q i = subst (λ (m : ℕ). In-order m (add-bucket b x y 
   order = add-mono (i .confirmed .no-sign) (q .confirmed .no-sign) (i .resolved .no-sign) (q .resolved .no-sign) (i .order) (q .order);
 })
 
-module _ (c : ℕ) (confirmed resolved : Counts) (in-order : (b : ℕ) → b < buckets → Ordered 1 (cell confirmed b c) (cell resolved b c)) where
+module _ (k : Board) (target : ℕ) (confirmed resolved : Counts)
+    (in-order : (b : ℕ) → b < buckets → Ordered 1 (cell confirmed b (column-of k target)) (cell resolved b (column-of k target))) where
   abbrev at : ℕ → Sums
-  at b = sums-at b c confirmed resolved
+  at b = sums-at k target b confirmed resolved
 
-  way : Walk c confirmed resolved
+  way : Walk k target confirmed resolved
   unfolding WalkPromise
-  way = walk c confirmed resolved
+  way = walk k target confirmed resolved
 
   -- n buckets have been added
   sums-ordered : (n b : ℕ) → n + b ≡ buckets → In-order n (at b)
@@ -83,7 +86,7 @@ module _ (c : ℕ) (confirmed resolved : Counts) (in-order : (b : ℕ) → b < b
   sums-ordered zero b e =
       let top : b ≡ buckets = omega arith in
       subst (In-order 0) (sym (ap at top ∙ way .begins)) (record { confirmed = nought-tame 0; resolved = nought-tame 0; order = tt })
-  sums-ordered (suc n) b e = subst (In-order (suc n)) (sym (way .goes-down b (omega arith))) (bucket-more n b (cell confirmed b c) (cell resolved b c) (at (suc b)) (omega arith) (in-order b (omega arith)) (sums-ordered n (suc b) (omega arith)))
+  sums-ordered (suc n) b e = subst (In-order (suc n)) (sym (way .goes-down b (omega arith))) (bucket-more n b _ _ (at (suc b)) (omega arith) (in-order b (omega arith)) (sums-ordered n (suc b) (omega arith)))
 
   ratio-within : (b : ℕ) → b < buckets → RatioWithin (at b)
   unfolding RatioWithin
@@ -102,17 +105,18 @@ between x y q = record {
   order = q .order;
 }
 
-module _ (k : Board) (d : Factor (k .decay)) (l : Log) (x : Held) (m : Meant k l x) where
+module _ (k : Board) (law : Lawful k) (d : Factor (k .decay)) (l : Log) (x : Held) (m : Meant k l x) where
   cells : (b c : ℕ) → b < buckets → 1 ≤ c → c ≤ columns → Ordered 1 (cell (x .memory .confirmed) b c) (cell (x .memory .resolved) b c)
-  cells b c h low high = rw (m .confirmed-is b c h low high, m .resolved-is b c h low high) (counts-ordered k d l b c)
+  cells b c h least most = rw (m .confirmed-is b c h least most, m .resolved-is b c h least most) (counts-ordered k d l b c)
 
   -- of whatever means what its log makes
-  pub success : Success (x .memory .confirmed) (x .memory .resolved)
+  pub success : Success k (x .memory .confirmed) (x .memory .resolved)
   success = record {
-    counts = λ b c h low high. between (cell (x .memory .confirmed) b c) (cell (x .memory .resolved) b c) (cells b c h low high);
-    ratios = λ b c h low high. ratio-within c (x .memory .confirmed) (x .memory .resolved) (λ i g. cells i c g low high) b h;
+    counts = λ b c h least most. between (cell (x .memory .confirmed) b c) (cell (x .memory .resolved) b c) (cells b c h least most);
+    ratios = λ target b asked h.
+        ratio-within k target (x .memory .confirmed) (x .memory .resolved) (λ i g. cells i (column-of k target) g (low k (law .wide) target asked) (high k (law .wide) target asked)) b h;
   }
 
 pub success-promise : (k : Board) → Lawful k → Factor (k .decay) → SuccessPromise k
 unfolding SuccessPromise Promise
-success-promise k law d m e cs t r = success k d (singly (calls k m cs .log)) (calls k m cs) (promise k law m e cs t r)
+success-promise k law d m e cs t r = success k law d (singly (calls k m cs .log)) (calls k m cs) (promise k law m e cs t r)

@@ -11,7 +11,7 @@ use Rattle.kinds.specs.Answers.{done}
 use Rattle.rules.specs.Ladder.{buckets}
 use Rattle.rules.specs.Counts.{Counts, columns, nought, one, sound-count, cell}
 use Rattle.rules.specs.Board.{Board}
-use Rattle.rules.specs.Estimate.{column, Sums, add-bucket, sums-down-to, rate-in-column}
+use Rattle.rules.specs.Estimate.{column-of, column, Sums, add-bucket, sums-down-to, estimate}
 use Rattle.rules.specs.Memory.{Lent}
 use Rattle.rules.specs.Calls.{start-call}
 use Rattle.meaning.specs.Runs.{Rising, Call, AllTyped, calls}
@@ -26,19 +26,21 @@ pub record Between (confirmed resolved : Float) : Type 0 where
 
 -- ---- the sums that the estimate forms
 
--- both sums of column c when the walk down from the highest bucket has added bucket b
-unfoldable pub sums-at : ℕ → ℕ → Counts → Counts → Sums
-sums-at b c confirmed resolved = sums-down-to b (drop b (column buckets c confirmed)) (drop b (column buckets c resolved))
+-- both sums for a target when the walk down from the highest bucket has added bucket b
+unfoldable pub sums-at : Board → ℕ → ℕ → Counts → Counts → Sums
+sums-at k target b confirmed resolved = sums-down-to b (drop b (column buckets (column-of k target) confirmed)) (drop b (column buckets (column-of k target) resolved))
 
--- It is that walk: 0.0 before the highest bucket, then bucket by bucket its two counts added and the sums put to the test, and in the end the estimate's rate.
-pub record Walk (c : ℕ) (confirmed resolved : Counts) : Type 0 where
-  pub begins : sums-at buckets c confirmed resolved ≡ record { confirmed = nought; resolved = nought; rate = none }
-  pub goes-down : (b : ℕ) → b < buckets → sums-at b c confirmed resolved ≡ add-bucket b (cell confirmed b c) (cell resolved b c) (sums-at (suc b) c confirmed resolved)
-  pub ends : rate-in-column c confirmed resolved ≡ sums-at 0 c confirmed resolved .rate
+-- It is the estimate's walk: at each bucket its two counts for the target are added and the sums put to the test, from 0.0 before the highest bucket on, and in
+-- the end they have the rate. (Target 0 takes no walk.)
+pub record Walk (k : Board) (target : ℕ) (confirmed resolved : Counts) : Type 0 where
+  pub goes-down : (b : ℕ) → b < buckets → sums-at k target b confirmed resolved
+      ≡ add-bucket b (cell confirmed b (column-of k target)) (cell resolved b (column-of k target)) (sums-at k target (suc b) confirmed resolved)
+  pub begins : sums-at k target buckets confirmed resolved ≡ record { confirmed = nought; resolved = nought; rate = none }
+  pub ends : 1 ≤ target → estimate k target confirmed resolved ≡ sums-at k target 0 confirmed resolved .rate
 
 -- whatever the counts are
-unfoldable pub WalkPromise : Type 0
-WalkPromise = (c : ℕ) (confirmed resolved : Counts) → Walk c confirmed resolved
+unfoldable pub WalkPromise : Board → Type 0
+WalkPromise k = (target : ℕ) (confirmed resolved : Counts) → Walk k target confirmed resolved
 
 -- ---- the ratios
 
@@ -48,11 +50,11 @@ RatioWithin s = T (le one (s .resolved)) → T (le nought (div binary64 (s .conf
 
 -- ---- the promise
 
--- of each of the 3,550 counts of each kind, and at each bucket of each column
-pub record Success (confirmed resolved : Counts) : Type 0 where
+-- of each of the 3,550 counts of each kind, and for each target at each bucket
+pub record Success (k : Board) (confirmed resolved : Counts) : Type 0 where
   pub counts : (b c : ℕ) → b < buckets → 1 ≤ c → c ≤ columns → Between (cell confirmed b c) (cell resolved b c)
-  pub ratios : (b c : ℕ) → b < buckets → 1 ≤ c → c ≤ columns → RatioWithin (sums-at b c confirmed resolved)
+  pub ratios : (target b : ℕ) → 1 ≤ target → b < buckets → RatioWithin (sums-at k target b confirmed resolved)
 
 -- Whatever memory is lent and whatever is called after it: if the fresh start is answered 0 and the accepted blocks rise.
 unfoldable pub SuccessPromise : Board → Type 0
-SuccessPromise k = (m : Lent) → start-call k m .answer ≡ done → (cs : List Call) → AllTyped cs → Rising (calls k m cs .log) → Success (calls k m cs .memory .confirmed) (calls k m cs .memory .resolved)
+SuccessPromise k = (m : Lent) → start-call k m .answer ≡ done → (cs : List Call) → AllTyped cs → Rising (calls k m cs .log) → Success k (calls k m cs .memory .confirmed) (calls k m cs .memory .resolved)

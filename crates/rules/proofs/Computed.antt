@@ -14,11 +14,11 @@ use Rattle.rules.specs.Calls.{start-call, enter-call, leave-call, gap, i
 use Rattle.rules.proofs.Edge.{same-counts, only}
 
 -- document 01's steps and the estimate
-unfoldable pub steps : Unit {0}
+unfoldable pub compute-steps : Unit {0}
 unfolding round add mul div le toBits count any every keep insert places same below dropped placed ladder last-not-above bucket-index gain apply-decay fresh is-pending find holds admit tx-entered tx-left record-confirmation expire-targets advance-height advances advance-heights skip-heights confirm confirm-all finish-block block-connected column-of column passes add-bucket sums-down-to rate-in-column estimate same-counts only
-steps = tt
+compute-steps = tt
 
 -- the public calls, which judge memory, take the steps and lay the tables
-unfoldable pub calls : Unit {0}
-unfolding steps lt rising finite sound-count bytes Rattle.rules.specs.Bytes.le in-range pending-bytes pending-of confirmed-bytes confirmed-of records joined all-zero sound-table laid pending-records confirmed-records lay-pending lay-confirmed sound-pending sound-confirmed sound-counts sound view state-of lay start-call enter-call leave-call gap ids-of pending-listings block-call rate-answer estimate-call
-calls = tt
+unfoldable pub compute-calls : Unit {0}
+unfolding compute-steps lt rising finite sound-count bytes Rattle.rules.specs.Bytes.le in-range pending-bytes pending-of confirmed-bytes confirmed-of records joined all-zero sound-table laid pending-records confirmed-records lay-pending lay-confirmed sound-pending sound-confirmed sound-counts sound view state-of lay start-call enter-call leave-call gap ids-of pending-listings block-call rate-answer estimate-call
+compute-calls = tt

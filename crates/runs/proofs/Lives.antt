@@ -114,7 +114,7 @@ module _ (v : Version) (k : Board) (law : Lawful k) where
   lived d y (known m c) f r = record {
     meant = meant k law m (y .held) c r;
     answered = answers-of k law d m (y .held) c r;
-    success = success k d (singly (y .held .log)) (y .held) (meant k law m (y .held) c r);
+    success = success k law d (singly (y .held .log)) (y .held) (meant k law m (y .held) c r);
   }
 
   pub life-promise : Factor (k .decay) → LifePromise v k

@@ -19,7 +19,7 @@ use Rattle.rules.proofs.Edge.{id}
 use Rattle.meaning.specs.Runs.{begin, Rising, singly, Call, Held, after-all, started, calls}
 use Rattle.meaning.specs.Fates.{Kind, in-resolved, in-confirmed, count-of, Meant}
 use Rattle.meaning.specs.Success.{sums-at, RatioWithin, Success}
-use Rattle.meaning.proofs.Computed.{runs, logs}
+use Rattle.meaning.proofs.Computed.{compute-runs, compute-logs}
 use Rattle.runs.proofs.Witness.{dirty, enters, connects}
 
 -- both counts of a kind for bucket 33 and column c, as their patterns: what is stored, and what the log makes
@@ -52,7 +52,7 @@ again = calls base dirty (enters 1 5000 100 ∷ connects (id 1) 101 ∷ enters 2
 
 -- 0.998 + 1.0, where two blocks of 101 would make (2 * 0.998 + 2) * 0.998
 pub again-breaks : Breaks in-confirmed again 1 (decimal 1998 1000) (mul binary64 (add binary64 (decimal 1996 1000) (decimal 2 1)) (decimal 998 1000))
-unfolding runs logs
+unfolding compute-runs compute-logs
 again-breaks = record { stores = tt; expected = tt; differ = tt }
 
 pub again-is-not-meant : Meant base (singly (again .log)) again → ⊥
@@ -64,7 +64,7 @@ back = calls base dirty (enters 1 5000 100 ∷ connects [] 105 ∷ connects (id 
 
 -- counted confirmed, long after it was counted resolved
 pub back-breaks : Breaks in-confirmed back 3 (decimal 1 1) nought
-unfolding runs logs
+unfolding compute-runs compute-logs
 back-breaks = record { stores = tt; expected = tt; differ = tt }
 
 pub back-is-not-meant : Meant base (singly (back .log)) back → ⊥
@@ -80,7 +80,7 @@ pub record Exceeds (x : Held) (c : ℕ) (confirmed resolved : Float) : Type 0 wh
 
 -- the targets that height 105 resolved and block 103 confirmed
 pub back-exceeds : Exceeds back 3 (decimal 1 1) (decimal 998 1000) × (Exceeds back 4 (decimal 1 1) (decimal 998 1000) × Exceeds back 5 (decimal 1 1) (decimal 998 1000))
-unfolding runs
+unfolding compute-runs
 back-exceeds = (
   record { confirmed-is = tt; resolved-is = tt; not-in-order = tt },
   (
@@ -89,7 +89,7 @@ back-exceeds = (
   ),
 )
 
-pub back-is-no-success : Success (back .memory .confirmed) (back .memory .resolved) → ⊥
+pub back-is-no-success : Success base (back .memory .confirmed) (back .memory .resolved) → ⊥
 back-is-no-success s = T-not (le (cell (back .memory .confirmed) 33 3) (cell (back .memory .resolved) 33 3)) (back-exceeds .0 .not-in-order) (s .counts 33 3 (lit< tt) (lit≤ tt) (lit≤ tt) .order)
 
 -- with two such ids the resolved sum is above 1.0, and the estimate forms the ratio 2.0 over 1.996
@@ -97,7 +97,7 @@ abbrev both-back : Held
 both-back = calls base dirty (enters 1 5000 100 ∷ enters 2 5000 100 ∷ connects [] 105 ∷ connects (id 1 ++ id 2) 103 ∷ [])
 
 abbrev sums-back : Sums
-sums-back = sums-at 33 3 (both-back .memory .confirmed) (both-back .memory .resolved)
+sums-back = sums-at base 3 33 (both-back .memory .confirmed) (both-back .memory .resolved)
 
 pub record RatioAbove (s : Sums) (confirmed resolved : Float) : Type 0 where
   pub confirmed-is : T (eqb (toBits binary64 (s .confirmed)) (toBits binary64 confirmed))
@@ -106,12 +106,12 @@ pub record RatioAbove (s : Sums) (confirmed resolved : Float) : Type 0 where
   pub above : T (not (le (div binary64 (s .confirmed) (s .resolved)) one))
 
 pub ratio-back : RatioAbove sums-back (decimal 2 1) (decimal 1996 1000)
-unfolding runs sums-at
+unfolding compute-runs sums-at
 ratio-back = record { confirmed-is = tt; resolved-is = tt; formed = tt; above = tt }
 
-pub ratio-is-no-success : Success (both-back .memory .confirmed) (both-back .memory .resolved) → ⊥
+pub ratio-is-no-success : Success base (both-back .memory .confirmed) (both-back .memory .resolved) → ⊥
 unfolding RatioWithin
-ratio-is-no-success s = T-not (le (div binary64 (sums-back .confirmed) (sums-back .resolved)) one) (ratio-back .above) (s .ratios 33 3 (lit< tt) (lit≤ tt) (lit≤ tt) (ratio-back .formed) .1)
+ratio-is-no-success s = T-not (le (div binary64 (sums-back .confirmed) (sums-back .resolved)) one) (ratio-back .above) (s .ratios 3 33 (lit≤ tt) (lit< tt) (ratio-back .formed) .1)
 
 -- ---- no fresh start: the incident
 
@@ -135,12 +135,12 @@ incident = after-all base next-block (restored 1000000)
 
 -- resolved for target 1: only the one that was confirmed, where the log has both
 pub incident-breaks : Breaks in-resolved incident 1 (decimal 1 1) (decimal 1996 1000)
-unfolding runs logs
+unfolding compute-runs compute-logs
 incident-breaks = record { stores = tt; expected = tt; differ = tt }
 
 -- though its blocks rise
 pub incident-rises : Rising (incident .log)
-unfolding runs
+unfolding compute-runs
 incident-rises = (tt, tt)
 
 pub incident-is-not-meant : Meant base (singly (incident .log)) incident → ⊥

@@ -15,7 +15,7 @@ use Rattle.rules.specs.Board.{base}
 use Rattle.rules.specs.Memory.{Lent, lent}
 use Rattle.rules.proofs.Edge.{id, same-counts, only}
 use Rattle.meaning.specs.Runs.{arrival, removal, block, Log, begin, _▸_, Call, enter, leave, connect, Held, outcome-of, after, started, calls}
-use Rattle.meaning.proofs.Computed.{runs}
+use Rattle.meaning.proofs.Computed.{compute-runs}
 
 abbrev pub dirty : Lent
 dirty = lent (replicate 3551 nan) (replicate 3550 nan) (replicate 100 7) (replicate 80 9)
@@ -79,9 +79,9 @@ pub record Ran (x : Held) : Type 0 where
 
 -- AlreadyPending, PendingFull, Absent, BadList, GapTooWide, ConfirmedFull, each refused where it must be
 pub answered : answers asked (started base dirty) ≡ 0 ∷ 2 ∷ 0 ∷ 3 ∷ 4 ∷ 0 ∷ 5 ∷ 0 ∷ 0 ∷ 6 ∷ 0 ∷ 0 ∷ 7 ∷ []
-unfolding runs answers
+unfolding compute-runs answers
 answered = refl
 
 pub ran : Ran (calls base dirty asked)
-unfolding runs left-so
+unfolding compute-runs left-so
 ran = record { log-is = refl; state-is = refl; memory-is = tt }

@@ -91,7 +91,7 @@ AsidePromise v k = (q : Ask) (y : Life) → Aside v k q y → next v k q y ≡ y
 pub record Lived (k : Board) (x : Held) : Type 0 where
   pub meant : Meant k (singly (x .log)) x
   pub answered : Answered k (singly (x .log)) x
-  pub success : Success (x .memory .confirmed) (x .memory .resolved)
+  pub success : Success k (x .memory .confirmed) (x .memory .resolved)
 
 unfoldable pub LifePromise : Version → Board → Type 0
 LifePromise v k = (m : Life) → m .is-fresh ≡ false → (qs : List Ask) → TypedAsks qs → let y = lives v k qs m in y .is-fresh ≡ true → Rising (y .held .log) → Lived k (y .held)
