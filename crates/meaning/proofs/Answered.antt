@@ -27,7 +27,7 @@ use Rattle.meaning.specs.Fates.{admissions, pends, Meant}
 use Rattle.meaning.specs.Answered.{waiting, too-far, foretold, Answered, AnswerPromise}
 use Rattle.meaning.proofs.Counting.{bool-ext, any-count, count-ext, count-length}
 use Rattle.meaning.proofs.Living.{and-true}
-use Rattle.meaning.proofs.Judging.{pending-length}
+use Rattle.rules.proofs.Memory.{pending-length}
 use Rattle.meaning.proofs.Leading.{Comes, comes}
 use Rattle.meaning.proofs.Meaning.{meant}
 use Rattle.meaning.proofs.Estimates.{estimates}

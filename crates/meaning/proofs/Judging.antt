@@ -1,24 +1,23 @@
 -- A call is refused, and gives back what it was given, or is taken, for a reason that the next steps need. Assumes nothing.
-use mathlib.Core.Path.{_≡_, refl, _∙_}
+use mathlib.Core.Path.{_≡_, refl}
 use mathlib.Core.Bool.{Bool, true, false, not, cond}
 use mathlib.Core.List.{List}
 use Prim.Native.Nat.{ℕ, _+_, _%_, _≤_, _<_}
 use native.Mathlib.Omega.{arith}
 use lib.Dec.{ltb, eqb}
-use lib.ListN.{length, length-map}
+use lib.ListN.{length}
 use borrow.Author.Tests.{ltb-false, eqb-false, not-false}
 use Rattle.kinds.specs.declared.FeeRate.{FeeRate}
 use Rattle.kinds.specs.declared.Height.{Height}
 use Rattle.kinds.specs.declared.State.{State}
 use Rattle.kinds.specs.Answers.{Answer, damaged, already-pending, pending-full, absent, bad-list, gap-too-wide, confirmed-full}
 use Rattle.rules.specs.Ids.{Id}
-use Rattle.rules.specs.Board.{Board, pending-most}
+use Rattle.rules.specs.Board.{Board}
 use Rattle.rules.specs.Estimator.{is-pending, without, admit, block-connected}
-use Rattle.rules.specs.Records.{records, sound-table}
 use Rattle.rules.specs.Memory.{Lent, pending-capacity, confirmed-capacity, pending-records, sound-pending, sound, view}
 use Rattle.rules.specs.Calls.{Outcome, refused, accepted, accepted-pending, enter-call, leave-call, gap, widest-gap, ids-of, pending-listings, block-call}
-use Rattle.rules.proofs.Records.{and-left, length-records, used-within}
-use Rattle.meaning.proofs.Table.{Free}
+use Rattle.rules.proofs.Memory.{pending-length, pending-within}
+use Rattle.rules.proofs.Placing.{Free}
 
 pub data Judged {L : Type 0} (s : State) (l : L) (good : Outcome L) (Why : Type 0) : Outcome L → Type 0 where
   turned : (a : Answer) → eqb (a .number) 0 ≡ false → Judged s l good Why (refused a s l)
@@ -28,15 +27,6 @@ module _ {L : Type 0} {s : State} {l : L} {good : Outcome L} {Why : Type 0} wher
   unless : (a : Answer) → eqb (a .number) 0 ≡ false → (b : Bool) {o : Outcome L} → (b ≡ false → Judged s l good Why o) → Judged s l good Why (cond b (refused a s l) o)
   unless a z true f = turned a z
   unless a z false f = f refl
-
-pub pending-length : (k : Board) (n : ℕ) (xs : List ℕ) → length (pending-records k n xs) ≡ n
-unfolding pending-records
-pending-length k n xs = length-map (records (k .table .size) n xs) (k .table .read) ∙ length-records (k .table .size) n xs
-
--- no more records than places
-pending-within : (k : Board) (n : ℕ) (xs : List ℕ) → sound-pending k n xs ≡ true → n ≤ pending-capacity k xs
-unfolding sound-pending
-pending-within k n xs h = used-within (k .table .size) pending-most n xs (and-left (sound-table (k .table .size) pending-most n xs) _ h)
 
 module _ (k : Board) (s : State) where
   pub enter-judged : (xs : List ℕ) (i : Id) (rate : FeeRate) (h : Height)

@@ -18,13 +18,14 @@ use Rattle.rules.specs.Estimator.{Estimator, fresh, is-pending, without, admit,
 use Rattle.rules.specs.Memory.{Lent, pending-capacity, confirmed-capacity, pending-records, lay-pending, lay-confirmed, enough, view, state-of, lay}
 use Rattle.rules.specs.Calls.{Outcome, refused, accepted, start-call, accepted-pending, enter-call, leave-call, ids-of, pending-listings, block-call}
 use Rattle.rules.proofs.Listed.{ids-sized}
-use Rattle.rules.proofs.Memory.{Room, there, over, same-capacity, confirmed-kept, view-of-lay, lay-over}
-use Rattle.rules.proofs.Well.{Well, well-fresh, well-entered, well-left, well-block}
-use Rattle.rules.proofs.Sound.{well-fits}
+use Rattle.rules.proofs.Memory.{Room, same-capacity, confirmed-kept, view-of-lay, lay-over}
+use Rattle.rules.proofs.Placing.{Free, admit-free}
+use Rattle.rules.proofs.Well.{newcomer, Well, well-fresh, well-entered, well-left, well-block}
+use Rattle.rules.proofs.Sound.{well-fits, Tabled, pending-seen, pending-places, pending-over}
 use Rattle.rules.proofs.Room.{length-insert, length-keep, within-block}
 use Rattle.meaning.specs.Runs.{arrival, removal, block, Log, begin, _▸_, Call, enter, leave, connect, Typed, AllTyped, event-of, Held, with-table, outcome-of, noted, after, after-all, started, calls}
 use Rattle.meaning.specs.Answered.{run}
-use Rattle.meaning.proofs.Table.{Free, newcomer, admit-free, Admitted}
+use Rattle.meaning.proofs.Table.{Admitted}
 use Rattle.meaning.proofs.Judging.{Judged, turned, taken, enter-judged, leave-judged, block-judged}
 
 -- what a caller has, if the memory lent was m and the log is g
@@ -56,13 +57,15 @@ module _ (k : Board) (law : Lawful k) (m : Lent) (g : Log) (v : Live k m g) wher
   abbrev xs : List ℕ
   xs = lay-pending k (e .pending) (m .pending)
 
+  fitting : Tabled k (m .pending) (e .pending)
+  fitting = record { well = v .well .pending; up = v .well .pending-up; room = v .room .pending }
+
   back : pending-records k (s .pending) xs ≡ e .pending
-  unfolding state-of pending-records lay-pending
-  back = there (law .kept) (pending-capacity k (m .pending)) (m .pending) (well-fits (v .well) .pending)
+  unfolding state-of
+  back = pending-seen k law (m .pending) fitting
 
   same-room : pending-capacity k xs ≡ pending-capacity k (m .pending)
-  unfolding lay-pending
-  same-room = same-capacity (law .kept) pending-most (m .pending) (well-fits (v .well) .pending) (v .room .pending)
+  same-room = pending-places k law (m .pending) fitting
 
   same-view : view k s (lay k e m) ≡ e
   same-view = view-of-lay k law e m (well-fits (v .well))
@@ -78,8 +81,8 @@ module _ (k : Board) (law : Lawful k) (m : Lent) (g : Log) (v : Live k m g) wher
       record { state = o .state; memory = o .lent; log = l }
 
   tabled-is : (rs : List Pending) (l : Log) → tabled rs l ≡ record { state = state-of (with-pending rs e); memory = lay k (with-pending rs e) m; log = l }
-  unfolding tabled state-of lay lay-pending
-  tabled-is rs l = rw (over (law .kept) pending-most (m .pending) (well-fits (v .well) .pending) (v .room .pending) rs)
+  unfolding tabled state-of lay
+  tabled-is rs l = rw (pending-over k law (m .pending) fitting rs)
 
   enter-leads : (i : Id) (rate : FeeRate) (h : Height) → Typed (enter i rate h) → Leads k m (after k (enter i rate h) (at k m g))
   unfolding after outcome-of Typed tabled lay run tx-entered noted event-of

@@ -15,7 +15,8 @@ use Rattle.meaning.specs.Runs.{arrival, removal, block, Log, begin, _▸
 use Rattle.meaning.specs.Answered.{run}
 use Rattle.meaning.proofs.Counting.{is-true}
 use Rattle.meaning.proofs.Living.{Under}
-use Rattle.meaning.proofs.Table.{Free, Admitted, singles, Climbs}
+use Rattle.rules.proofs.Placing.{Free}
+use Rattle.meaning.proofs.Table.{Admitted, singles, Climbs}
 use Rattle.meaning.proofs.Counts.{left-by}
 
 -- ---- the log with each skipped height put in climbs

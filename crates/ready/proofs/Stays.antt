@@ -1,33 +1,32 @@
 -- Sound memory stays sound under every call, answered 0 or refused, on every lawful board whose factor is above 0 and at most 1: so whatever sound memory
 -- a run begins with, fresh or read from a file, no later call of it finds damage. Assumes nothing.
 use mathlib.Core.Path.{_≡_, refl, sym, ap, ap₂, _∙_}
-use mathlib.Core.Bool.{Bool, true, false, not, _&&_, _||_, cond, true≢false}
+use mathlib.Core.Bool.{Bool, true, false, not, _||_, cond, true≢false}
 use mathlib.Core.List.{List}
-use Prim.Native.Nat.{ℕ, suc, _+_, _*_, _%_, _^_, _≤_, _<_, zero-le}
+use Prim.Native.Nat.{ℕ, suc, _+_, _%_, _^_, _≤_, _<_, zero-le}
 use native.Mathlib.Omega.{arith}
 use lib.Dec.{T, leb, ltb, eqb}
 use lib.ListN.{length, take, getD}
 use lib.Seq.{getD-take, length-take-le}
 use lib.Pow.{areBytes}
-use lib.Ieee.{Float, nan, binary64, fits}
-use borrow.Author.Tests.{leb-true, ltb-false, eqb-true, eq-eqb}
+use lib.Ieee.{nan, binary64, fits}
+use borrow.Author.Tests.{leb-true, ltb-false, eq-eqb}
 use Rattle.kinds.specs.declared.FeeRate.{FeeRate}
 use Rattle.kinds.specs.declared.Height.{Height}
 use Rattle.kinds.specs.declared.State.{State}
-use Rattle.kinds.specs.Answers.{Answer, damaged, already-pending, pending-full, absent, bad-list, gap-too-wide, confirmed-full}
+use Rattle.kinds.specs.Answers.{damaged, already-pending, pending-full, absent, bad-list, gap-too-wide, confirmed-full}
 use Rattle.rules.specs.Lists.{keep, insert}
 use Rattle.rules.specs.Ids.{Id, same, below, dropped, placed}
-use Rattle.rules.specs.Ladder.{bucket-index}
-use Rattle.rules.specs.Counts.{Counts, places-of-counts, sound-count}
+use Rattle.rules.specs.Counts.{Counts, places-of-counts}
 use Rattle.rules.specs.Board.{Board, Pending, confirmed-size, pending-most, confirmed-most, Lawful}
 use Rattle.rules.specs.Records.{sound-table}
 use Rattle.rules.specs.Estimator.{Estimator, fresh, is-pending, admit, without, with-pending, tx-entered, tx-left, block-connected}
 use Rattle.rules.specs.Memory.{Lent, lent, pending-capacity, confirmed-capacity, pending-records, lay-pending, enough, sound-counts, sound-pending, sound-confirmed, sound, view, state-of, lay}
-use Rattle.rules.specs.Calls.{Outcome, refused, accepted, accepted-pending, start-call, enter-call, leave-call, gap, widest-gap, ids-of, pending-listings, block-call}
+use Rattle.rules.specs.Calls.{Outcome, refused, accepted, accepted-pending, enter-call, leave-call, gap, widest-gap, ids-of, pending-listings, block-call}
 use Rattle.rules.proofs.All.{All}
 use Rattle.rules.proofs.Records.{and-left, and-right, used-within}
 use Rattle.rules.proofs.Memory.{Room, state-of-view, lay-of-view}
-use Rattle.rules.proofs.Well.{Well, well-fresh, well-entered, well-left, well-block}
+use Rattle.rules.proofs.Well.{newcomer, Well, well-fresh, well-entered, well-left, well-block}
 use Rattle.rules.proofs.Sound.{SoundCounts, view-well, lay-sound}
 use Rattle.rules.proofs.Room.{length-keep, length-insert, within-block}
 use Rattle.rules.proofs.Listed.{ids-sized}
@@ -62,12 +61,9 @@ grown : (i : Id) (x g : ℕ) (rs : List Pending) → length (admit i x g rs) ≤
 unfolding admit placed dropped
 grown i x g rs = go (is-pending i rs || leb pending-most (length rs))
   where
-    new : Pending
-    new = record { id = i; bucket = bucket-index x; entry = g; through = 0 }
-
-    go : (b : Bool) → length (cond b rs (insert (λ x y. below (x .id) (y .id)) new (keep (λ r. not (same (r .id) i)) rs))) ≤ suc (length rs)
+    go : (b : Bool) → length (cond b rs (insert (λ x y. below (x .id) (y .id)) (newcomer i x g) (keep (λ r. not (same (r .id) i)) rs))) ≤ suc (length rs)
     go true = omega arith
-    go false = omega (arith, length-insert (λ x y. below (x .id) (y .id)) new (keep (λ r. not (same (r .id) i)) rs), length-keep (λ r. not (same (r .id) i)) rs)
+    go false = omega (arith, length-insert (λ x y. below (x .id) (y .id)) (newcomer i x g) (keep (λ r. not (same (r .id) i)) rs), length-keep (λ r. not (same (r .id) i)) rs)
 
 module _ (k : Board) (law : Lawful k) (d : Factor (k .decay)) where
   -- an outcome whose memory is sound

@@ -3,10 +3,11 @@
 use mathlib.Core.Path.{_≡_, refl, sym, ap, _∙_}
 use mathlib.Core.Bool.{Bool, true, false, not, cond, _||_}
 use mathlib.Core.List.{List, [], _∷_}
-use Rattle.rules.specs.Lists.{any, keep, insert}
-use Rattle.rules.specs.Ids.{Id, same, below, dropped, placed}
-use Rattle.rules.proofs.All.{All, none, more, all-keep}
-use Rattle.rules.proofs.Ids.{Up, end, step, below-trans, up-keep, up-placed}
+use Rattle.rules.specs.Lists.{any, keep}
+use Rattle.rules.specs.Ids.{Id, same, dropped, placed}
+use Rattle.rules.proofs.All.{All, none, more}
+use Rattle.rules.proofs.Ids.{Up, up-keep, up-placed}
+use Rattle.rules.proofs.Placing.{keep-swap, keep-insert}
 use Rattle.format.specs.File.{settled}
 
 module _ {A : Type 0} where
@@ -31,47 +32,7 @@ module _ {A : Type 0} where
       go true h = h
       go false h = rw h
 
-  keep-swap : (p q : A → Bool) (xs : List A) → keep p (keep q xs) ≡ keep q (keep p xs)
-  unfolding keep
-  keep-swap p q [] = refl
-  keep-swap p q (x ∷ xs) = go (p x) (q x) refl refl (keep-swap p q xs)
-    where
-      go : (s t : Bool) → p x ≡ s → q x ≡ t → keep p (keep q xs) ≡ keep q (keep p xs) → keep p (cond t (x ∷ keep q xs) (keep q xs)) ≡ keep q (cond s (x ∷ keep p xs) (keep p xs))
-      go true true e f h = rw (e, f, h)
-      go true false e f h = rw (f, h)
-      go false true e f h = rw (e, h)
-      go false false e f h = h
-
 module _ {A : Type 0} (id : A → Id) where
-  abbrev ordered : A → List A → List A
-  ordered r xs = insert (λ x y. below (id x) (id y)) r xs
-
-  first-in : (r : A) {xs : List A} → All (λ q. below (id r) (id q) ≡ true) xs → ordered r xs ≡ r ∷ xs
-  unfolding insert
-  first-in r none = refl
-  first-in r (more h hs) = rw h
-
-  all-above : (r x : A) {xs : List A} → below (id r) (id x) ≡ true → All (λ q. below (id x) (id q) ≡ true) xs → All (λ q. below (id r) (id q) ≡ true) xs
-  all-above r x h none = none
-  all-above r x h (more {a = q} k ks) = more (below-trans (id r) (id x) (id q) h k) (all-above r x h ks)
-
-  -- a record put in among records that rise, some of which go
-  keep-insert : (p : A → Bool) (r : A) {xs : List A} → Up id xs → keep p (ordered r xs) ≡ cond (p r) (ordered r (keep p xs)) (keep p xs)
-  unfolding keep insert
-  keep-insert p r end = refl
-  keep-insert p r (step {r = x} {rs = xs} a u) = go (below (id r) (id x)) (p x) refl refl (keep-insert p r u)
-    where
-      go : (t s : Bool) → below (id r) (id x) ≡ t → p x ≡ s → keep p (ordered r xs) ≡ cond (p r) (ordered r (keep p xs)) (keep p xs)
-          → keep p (cond t (r ∷ x ∷ xs) (x ∷ ordered r xs)) ≡ cond (p r) (ordered r (cond s (x ∷ keep p xs) (keep p xs))) (cond s (x ∷ keep p xs) (keep p xs))
-      go true true e f h = rw (f, e)
-      go true false e f h = rw (f, first-in r (all-keep p (all-above r x e a)))
-      go false true e f h = rw (f, e, h) (out (p r))
-        where
-          out : (b : Bool) → x ∷ cond b (ordered r (keep p xs)) (keep p xs) ≡ cond b (x ∷ ordered r (keep p xs)) (x ∷ keep p xs)
-          out true = refl
-          out false = refl
-      go false false e f h = rw (f, h)
-
   -- ---- records that are not placed again
 
   unfoldable left : List A → List A → List A
@@ -96,7 +57,7 @@ module _ {A : Type 0} (id : A → Id) where
       let v : Up id d = up-keep id o u in
       let e : keep (λ t. not (same (id t) (id r) || any (λ q. same (id t) (id q)) rs)) table ≡ keep p d = keep-both (λ t. any (λ q. same (id t) (id q)) rs) (λ t. same (id t) (id r)) table in
       let f : keep o (keep p d) ≡ keep p d = keep-swap o p d ∙ ap (keep p) (keep-twice o table) in
-      keep-insert p r v ∙ sym (rw (e, f) (keep-insert p r (up-keep id p v) ∙ rw (keep-twice p d)))
+      keep-insert id p r v ∙ sym (rw (e, f) (keep-insert id p r (up-keep id p v) ∙ rw (keep-twice p d)))
 
   settled-left : (rs : List A) {table : List A} → Up id table → settled id table rs ≡ settled id (left rs table) rs
   unfolding settled

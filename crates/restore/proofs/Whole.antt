@@ -14,7 +14,7 @@ use Rattle.rules.specs.Lists.{bit, count, any, every}
 use Rattle.rules.specs.Ids.{Id, same, rising, placed}
 use Rattle.rules.specs.Records.{records, joined, laid, id-of}
 use Rattle.rules.proofs.All.{All, none, more}
-use Rattle.rules.proofs.Ids.{Up, same-eq, same-refl, rising-of}
+use Rattle.rules.proofs.Ids.{Up, same-sym, same-refl, rising-of}
 use Rattle.rules.proofs.Records.{Sized, and-left, and-right, length-records, sized-records, joined-records, length-joined, laid-records, laid-beyond}
 use Rattle.format.specs.File.{settled}
 use Rattle.format.proofs.Back.{all-imply}
@@ -29,15 +29,6 @@ use Rattle.restore.proofs.Settling.{settled-over}
 use Rattle.restore.proofs.Renewing.{any-ids, placed-ids, placed-long}
 
 -- ---- ids that are there
-
-same-sym : (a b : Id) → same a b ≡ same b a
-same-sym a b = go (same a b) (same b a) refl refl
-  where
-    go : (s t : Bool) → same a b ≡ s → same b a ≡ t → s ≡ t
-    go true true e f = refl
-    go true false e f = sym (rw (same-eq a b e) (same-refl b)) ∙ f
-    go false true e f = sym e ∙ rw (same-eq b a f) (same-refl a)
-    go false false e f = refl
 
 any-turned : (i : Id) (rs : List (List ℕ)) → any (λ r. same (id-of r) i) rs ≡ any (λ r. same i (id-of r)) rs
 unfolding any
