@@ -1,5 +1,5 @@
 -- The laws for the base board, and the worked cases. Assumes nothing.
-use mathlib.Core.Path.{_≡_, refl, ap}
+use mathlib.Core.Path.{_≡_, refl, ap, _∙_}
 use mathlib.Core.List.{List, [], _∷_, _++_}
 use Prim.Native.Nat.{ℕ}
 use native.Mathlib.Omega.{arith}
@@ -7,9 +7,10 @@ use lib.Dec.{T, lit≤}
 use Rattle.kinds.specs.declared.State.{State}
 use Rattle.rules.specs.Lists.{every}
 use Rattle.rules.specs.Board.{base}
+use Rattle.rules.specs.Calls.{Outcome}
 use Rattle.rules.proofs.Boards.{base-lawful}
 use Rattle.rules.proofs.Computed.{compute-calls}
-use Rattle.orders.specs.Orders.{Entry, Holds, Commute, OrderPromise}
+use Rattle.orders.specs.Orders.{Call, Entry, in-turn, Holds, Commute, OrderPromise}
 use Rattle.orders.specs.Feeds.{entering-all, distinct, Reordered, swapped, after, and-then, FeedPromise}
 use Rattle.orders.specs.Worked.{entry, enters, used, free, table, turns, worked, OneIdPromise}
 use Rattle.orders.proofs.Calls.{order-promise}
@@ -22,6 +23,10 @@ orders = order-promise base base-lawful
 -- any number of entries, in any order
 pub feeds : FeedPromise base
 feeds = feed-promise base base-lawful
+
+-- Two outcomes that meet the calls' contracts, where the second call was given what the first left, are the two calls in turn. So the compiled calls have the laws.
+pub met-in-turn : (p q : Call) (s : State) (xs : List ℕ) (first second : Outcome (List ℕ)) → first ≡ p s xs → second ≡ q (first .state) (first .lent) → second ≡ in-turn p q s xs
+met-in-turn p q s xs first second e f = f ∙ ap (λ (o : Outcome (List ℕ)). q (o .state) (o .lent)) e
 
 -- every worked case, computed
 pub cases-hold : T (every (λ b. b) worked)

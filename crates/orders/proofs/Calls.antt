@@ -107,15 +107,15 @@ module _ (k : Board) (law : Lawful k) (last : Last) (recent : ℕ) (xs : List �
   -- ---- one after the other
 
   module _ {p q : Call} {a b : List Pending → Answer} {f g : List Pending → List Pending} (d : Does p a f) (e : Does q b g) {rs : List Pending} (t : Tabled k xs rs) where
-    pub turns : in-turn p q (st rs) (tab rs) ≡ outcome (b (f rs)) (st (g (f rs))) (tab (g (f rs)))
+    turns : in-turn p q (st rs) (tab rs) ≡ outcome (b (f rs)) (st (g (f rs))) (tab (g (f rs)))
     turns = ap (λ (o : Outcome (List ℕ)). q (o .state) (o .lent)) (d .leads t) ∙ e .leads (d .keeps t)
 
     -- memory that is as it was
-    pub restored : g (f rs) ≡ rs → Holds (in-turn p q (st rs) (tab rs)) (st rs) (tab rs)
+    restored : g (f rs) ≡ rs → Holds (in-turn p q (st rs) (tab rs)) (st rs) (tab rs)
     restored h = record { state = ap (λ (o : Outcome (List ℕ)). o .state) turns ∙ ap st h; lent = ap (λ (o : Outcome (List ℕ)). o .lent) turns ∙ ap tab h }
 
   -- steps that commute on the records, and that the other's answer does not show
-  pub commuting : {p q : Call} {a b : List Pending → Answer} {f g : List Pending → List Pending} → Does p a f → Does q b g → {rs : List Pending} → Tabled k xs rs
+  commuting : {p q : Call} {a b : List Pending → Answer} {f g : List Pending → List Pending} → Does p a f → Does q b g → {rs : List Pending} → Tabled k xs rs
       → g (f rs) ≡ f (g rs) → b (f rs) ≡ b rs → a (g rs) ≡ a rs → Commute p q (st rs) (tab rs)
   commuting {p} {q} d e {rs} t h i j =
       let x = turns d e t in
