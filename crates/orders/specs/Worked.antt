@@ -77,6 +77,6 @@ worked =
     ∷ turns 2 (table (taken 7)) (leaves 7) 1 (leaves 9) 1 2 (table (taken 7))
     ∷ []
 
--- "An entry and a leave of one id do not commute": on a table of one free place the memory is not the same in either order.
+-- "An entry and a leave of one id do not commute": on a table of one free place the two orders do not give the same memory.
 unfoldable pub OneIdPromise : Type 0
 OneIdPromise = ¬ (Alike (enters 7) (leaves 7) (used 0) (table free))
