@@ -1,4 +1,4 @@
--- Worked cases of the base board: an entry and a leave of one id do not commute, and what each premise of the laws is for. Assumes nothing.
+-- Worked cases of the base board: an entry and a leave of one id do not commute, and the edges of the laws. Assumes nothing.
 use Prim.Native.Nat.{ℕ}
 use mathlib.Core.Path.{refl}
 use mathlib.Core.Bool.{Bool, _&&_}
