@@ -1,6 +1,6 @@
 -- What a search of one table tells, and what an edit of it leaves: the rules' records, laid. Whatever was edited, the slice still holds bytes, so its
 -- records are those of their bytes; and `table` says which records they are. Assumes nothing.
-use mathlib.Core.Path.{_≡_, sym, ap, _∙_}
+use mathlib.Core.Path.{_≡_, sym, ap, subst, _∙_}
 use mathlib.Core.Bool.{true, false}
 use mathlib.Core.List.{List, [], map}
 use mathlib.Core.Option.{none, some}
@@ -11,15 +11,16 @@ use lib.ListN.{length, getD, set, length-map, length-append, length-take, length
 use lib.Pow.{areBytes}
 use Rattle.rules.specs.Ids.{Id, rising}
 use Rattle.rules.specs.Records.{records, id-of, sound-table, laid}
-use Rattle.rules.specs.Board.{base, Confirmed, pending-size, pending-most, confirmed-size, confirmed-most, pending-of, confirmed-of, confirmed-bytes}
+use Rattle.rules.specs.Board.{Board, Lawful, Confirmed, pending-most, confirmed-size, confirmed-most, confirmed-of, confirmed-bytes}
 use Rattle.rules.specs.Estimator.{is-pending, find, without, holds, become}
 use Rattle.rules.specs.Memory.{pending-records, confirmed-records, confirmed-capacity, lay-pending, lay-confirmed}
 use Rattle.rules.proofs.Ids.{dropped-absent}
 use Rattle.rules.proofs.Records.{Sized, length-records, sized-records}
-use Rattle.rules.proofs.Memory.{pending-kept, confirmed-kept, ConfirmedFits, own}
+use Rattle.rules.proofs.Memory.{confirmed-kept, ConfirmedFits, own}
 use Rattle.table.specs.Search.{find-in}
 use Rattle.table.specs.Edit.{insert-at, remove-at}
 use Rattle.table.specs.Fields.{with-field}
+use Rattle.table.specs.declared.Found.{Found}
 use Rattle.table.specs.declared.Found.the-variants.{At, Gap}
 use Rattle.table.proofs.Fields.{length-with-field}
 use Rattle.table.proofs.Records.{length-ids, sized-insert, sized-remove, sized-set, sized-at}
@@ -30,10 +31,18 @@ use Rattle.table.proofs.Steps.{pending-missing, pending-there, pending-found, p
 
 -- ---- any table
 
+-- The code has a record's size as a number n that it has asked for; the rules have it as m.
+
 -- what a search asks of a sound one
-pub searchable : (size most used : ℕ) (xs i : List ℕ) → 32 ≤ size → sound-table size most used xs ≡ true → length i ≡ 32
-    → ((32 ≤ size) × (used * size ≤ length xs)) × ((rising (map id-of (records size used xs)) ≡ true) × (length i ≡ 32))
-searchable size most used xs i h s e = let g = sound-told size most used xs s in ((h, sound-room size most used xs g), (g .rise, e))
+pub searchable : (n m most used : ℕ) (xs i : List ℕ) → n ≡ m → 32 ≤ n → sound-table m most used xs ≡ true → length i ≡ 32
+    → ((32 ≤ n) × (used * n ≤ length xs)) × ((rising (map id-of (records n used xs)) ≡ true) × (length i ≡ 32))
+searchable n m most used xs i q h s e =
+    let g = sound-told n most used xs (ap (λ (x : ℕ). sound-table x most used xs) q ∙ s) in
+    ((h, sound-room n most used xs g), (g .rise, e))
+
+-- what it has told
+pub told : (n m used : ℕ) (xs : List ℕ) (i : Id) {r o : Found} → n ≡ m → r ≡ find-in i (map id-of (records n used xs)) → r ≡ o → find-in i (map id-of (records m used xs)) ≡ o
+told n m used xs i q f e = ap (λ (x : ℕ). find-in i (map id-of (records x used xs))) (sym q) ∙ sym f ∙ e
 
 -- a record that is found is a used one, and a place that is found is among them or after them
 at-used : (size used n : ℕ) (xs : List ℕ) (i : Id) → find-in i (map id-of (records size used xs)) ≡ At n → n < used
@@ -43,53 +52,55 @@ pub gap-used : (size used n : ℕ) (xs : List ℕ) (i : Id) → find-in i (map i
 gap-used size used n xs i f = let t = gap-told i (map id-of (records size used xs)) n f in omega (arith, t .within, length-ids size used xs)
 
 -- what reading or changing the record that is found asks
-pub in-table : (size most used n : ℕ) (xs : List ℕ) (i : Id) → sound-table size most used xs ≡ true → find-in i (map id-of (records size used xs)) ≡ At n → (n < used) × (used * size ≤ length xs)
-in-table size most used n xs i s f = (at-used size used n xs i f, sound-room size most used xs (sound-told size most used xs s))
+pub in-table : (n m most used j : ℕ) (xs : List ℕ) (i : Id) → n ≡ m → sound-table m most used xs ≡ true → find-in i (map id-of (records m used xs)) ≡ At j → (j < used) × (used * n ≤ length xs)
+in-table n m most used j xs i q s f =
+    (at-used m used j xs i f, subst (λ (x : ℕ). used * x ≤ length xs) (sym q) (sound-room m most used xs (sound-told m most used xs s)))
 
 -- ---- the pending table
 
-module _ (i : Id) (used n : ℕ) (xs : List ℕ) (s : sound-table pending-size pending-most used xs ≡ true) where
-  pub there : find-in i (map id-of (records pending-size used xs)) ≡ At n → true ≡ is-pending i (pending-records base used xs)
+module _ (k : Board) (law : Lawful k) (i : Id) (used n : ℕ) (xs : List ℕ) (s : sound-table (k .table .size) pending-most used xs ≡ true) where
+  pub there : find-in i (map id-of (records (k .table .size) used xs)) ≡ At n → true ≡ is-pending i (pending-records k used xs)
   unfolding pending-records
-  there f = sym (pending-there i n (records pending-size used xs) f)
+  there f = sym (pending-there (k .table .read) (law .named) i n (records (k .table .size) used xs) f)
 
-  pub missing : find-in i (map id-of (records pending-size used xs)) ≡ Gap n → false ≡ is-pending i (pending-records base used xs)
+  pub missing : find-in i (map id-of (records (k .table .size) used xs)) ≡ Gap n → false ≡ is-pending i (pending-records k used xs)
   unfolding pending-records
-  missing f = sym (pending-missing i n (records pending-size used xs) (sound-told _ _ used xs s .rise) f)
+  missing f = sym (pending-missing (k .table .read) (law .named) i n (records (k .table .size) used xs) (sound-told _ _ used xs s .rise) f)
 
   -- the record that is found
-  pub found : find-in i (map id-of (records pending-size used xs)) ≡ At n → find i (pending-records base used xs) ≡ some (pending-of (getD (records pending-size used xs) n []))
+  pub found : find-in i (map id-of (records (k .table .size) used xs)) ≡ At n → find i (pending-records k used xs) ≡ some (k .table .read (getD (records (k .table .size) used xs) n []))
   unfolding pending-records
-  found f = pending-found i n (records pending-size used xs) f
+  found f = pending-found (k .table .read) (law .named) i n (records (k .table .size) used xs) f
 
-  pub lost : find-in i (map id-of (records pending-size used xs)) ≡ Gap n → find i (pending-records base used xs) ≡ none
+  pub lost : find-in i (map id-of (records (k .table .size) used xs)) ≡ Gap n → find i (pending-records k used xs) ≡ none
   unfolding pending-records
-  lost f = pending-lost i n (records pending-size used xs) (sound-told _ _ used xs s .rise) f
+  lost f = pending-lost (k .table .read) (law .named) i n (records (k .table .size) used xs) (sound-told _ _ used xs s .rise) f
 
   -- the record of i goes
-  pub removed : (ys : List ℕ) → T (areBytes ys) → find-in i (map id-of (records pending-size used xs)) ≡ At n → ys ≡ laid pending-size used (remove-at n (records pending-size used xs)) xs
-      → (used - 1 ≡ length (without i (pending-records base used xs))) × (ys ≡ lay-pending base (without i (pending-records base used xs)) xs)
+  pub removed : (z : ℕ) (ys : List ℕ) → z ≡ k .table .size → T (areBytes ys) → find-in i (map id-of (records (k .table .size) used xs)) ≡ At n → ys ≡ laid z used (remove-at n (records z used xs)) xs
+      → (used - 1 ≡ length (without i (pending-records k used xs))) × (ys ≡ lay-pending k (without i (pending-records k used xs)) xs)
   unfolding pending-records lay-pending remove-at
-  removed ys b f q =
-      let g = sound-told pending-size pending-most used xs s in
-      let rs : List (List ℕ) = records pending-size used xs in
-      let many : length rs ≡ used = length-records pending-size used xs in
-      let m : n < used = at-used pending-size used n xs i f in
+  removed z ys q b f r =
+      let g = sound-told (k .table .size) pending-most used xs s in
+      let rs : List (List ℕ) = records (k .table .size) used xs in
+      let many : length rs ≡ used = length-records (k .table .size) used xs in
+      let m : n < used = at-used (k .table .size) used n xs i f in
       let fewer : length (remove-at n rs) ≡ used - 1 = simp (length-append, length-take, length-drop) (omega arith) in
-      let e : map pending-of (remove-at n rs) ≡ without i (map pending-of rs) = pending-without i n rs (g .rise) f in (
-        sym (ap length (sym e) ∙ length-map (remove-at n rs) pending-of ∙ fewer),
-        edited pending-kept pending-most used used (remove-at n rs) _ xs ys s b (omega arith) (g .fit) (omega arith)
-            (sized-remove pending-size n rs (sized-records pending-size used xs (sound-room pending-size pending-most used xs g))) e q,
+      let e : map (k .table .read) (remove-at n rs) ≡ without i (map (k .table .read) rs) = pending-without (k .table .read) (law .named) i n rs (g .rise) f in (
+        sym (ap length (sym e) ∙ length-map (remove-at n rs) (k .table .read) ∙ fewer),
+        edited (law .kept) pending-most used used (remove-at n rs) _ xs ys s b (omega arith) (g .fit) (omega arith)
+            (sized-remove (k .table .size) n rs (sized-records (k .table .size) used xs (sound-room (k .table .size) pending-most used xs g))) e
+            (r ∙ ap (λ (x : ℕ). laid x used (remove-at n (records x used xs)) xs) q),
       )
 
   -- there is none
-  pub unmoved : T (areBytes xs) → find-in i (map id-of (records pending-size used xs)) ≡ Gap n
-      → (used ≡ length (without i (pending-records base used xs))) × (xs ≡ lay-pending base (without i (pending-records base used xs)) xs)
+  pub unmoved : T (areBytes xs) → find-in i (map id-of (records (k .table .size) used xs)) ≡ Gap n
+      → (used ≡ length (without i (pending-records k used xs))) × (xs ≡ lay-pending k (without i (pending-records k used xs)) xs)
   unfolding pending-records lay-pending is-pending
   unmoved b f =
-      let rs : List (List ℕ) = records pending-size used xs in
-      let e : without i (map pending-of rs) ≡ map pending-of rs = dropped-absent (λ r. r .id) i (map pending-of rs) (sym (missing f)) in
-      rw e (sym (length-map rs pending-of ∙ length-records pending-size used xs), sym (own pending-kept pending-most used xs s b))
+      let rs : List (List ℕ) = records (k .table .size) used xs in
+      let e : without i (map (k .table .read) rs) ≡ map (k .table .read) rs = dropped-absent (λ r. r .id) i (map (k .table .read) rs) (sym (missing f)) in
+      rw e (sym (length-map rs (k .table .read) ∙ length-records (k .table .size) used xs), sym (own (law .kept) pending-most used xs s b))
 
 -- ---- the confirmed table
 

@@ -11,7 +11,7 @@ use Rattle.kinds.specs.declared.State.{State}
 use Rattle.kinds.specs.Answers.{done}
 use Rattle.rules.specs.Lists.{bit, count}
 use Rattle.rules.specs.Ids.{Id}
-use Rattle.rules.specs.Board.{base}
+use Rattle.rules.specs.Board.{Board, Lawful}
 use Rattle.rules.specs.Records.{records}
 use Rattle.rules.specs.Estimator.{Estimator, is-pending, confirm, confirm-all}
 use Rattle.rules.specs.Memory.{Lent, confirmed-capacity, pending-records, view, state-of}
@@ -73,55 +73,55 @@ module _ (p : Id → Bool) (xs : List ℕ) where
 
 -- ---- the steps of the block
 
-pub record Going (B : ℕ) (xs : List ℕ) (s₀ : State) (l₀ : Lent) (at : ℕ) (s : State) (l : Lent) : Type 0 where
+pub record Going (k : Board) (B : ℕ) (xs : List ℕ) (s₀ : State) (l₀ : Lent) (at : ℕ) (s : State) (l : Lent) : Type 0 where
   pub within : at ≤ length xs
   pub long : Long l₀ l
-  pub ready : Ready s l
-  pub room : s .recent + pending-listings base s l (ids-of (drop at xs)) ≤ confirmed-capacity (l .recent)
-  pub left : accepted base (confirm-all base B (ids-of (drop at xs)) (view base s l)) l ≡ accepted base (confirm-all base B (ids-of xs) (view base s₀ l₀)) l₀
+  pub ready : Ready k s l
+  pub room : s .recent + pending-listings k s l (ids-of (drop at xs)) ≤ confirmed-capacity (l .recent)
+  pub left : accepted k (confirm-all k B (ids-of (drop at xs)) (view k s l)) l ≡ accepted k (confirm-all k B (ids-of xs) (view k s₀ l₀)) l₀
 
-module _ (B : ℕ) (xs : List ℕ) (s₀ : State) (l₀ : Lent) where
-  pub going-none : Ready s₀ l₀ → s₀ .recent + pending-listings base s₀ l₀ (ids-of xs) ≤ confirmed-capacity (l₀ .recent) → Going B xs s₀ l₀ 0 s₀ l₀
+module _ (k : Board) (law : Lawful k) (B : ℕ) (xs : List ℕ) (s₀ : State) (l₀ : Lent) where
+  pub going-none : Ready k s₀ l₀ → s₀ .recent + pending-listings k s₀ l₀ (ids-of xs) ≤ confirmed-capacity (l₀ .recent) → Going k B xs s₀ l₀ 0 s₀ l₀
   going-none r h = record { within = omega arith; long = long-same l₀; ready = r; room = h; left = refl }
 
-  module _ (at : ℕ) (s : State) (l : Lent) (g : Going B xs s₀ l₀ at s l) where
+  module _ (at : ℕ) (s : State) (l : Lent) (g : Going k B xs s₀ l₀ at s l) where
     -- there is room for the next one
-    pub room-for-one : 32 ≤ length xs - at → s .recent + bit (is-pending (listed at xs) (pending-records base (s .pending) (l .pending))) ≤ confirmed-capacity (l .recent)
+    pub room-for-one : 32 ≤ length xs - at → s .recent + bit (is-pending (listed at xs) (pending-records k (s .pending) (l .pending))) ≤ confirmed-capacity (l .recent)
     unfolding pending-listings count
     room-for-one h =
-        let n = ap (count (λ i. is-pending i (pending-records base (s .pending) (l .pending)))) (ids-more xs at h) in
+        let n = ap (count (λ i. is-pending i (pending-records k (s .pending) (l .pending)))) (ids-more xs at h) in
         omega (arith, g .room, n)
 
     pub going-more : (t : State) (m : Lent) → 32 ≤ length xs - at → B < 256 ^ 4 → Long l₀ m
-        → outcome done t m ≡ accepted base (confirm base B (listed at xs) (view base s l)) l → Going B xs s₀ l₀ (at + 32) t m
+        → outcome done t m ≡ accepted k (confirm k B (listed at xs) (view k s l)) l → Going k B xs s₀ l₀ (at + 32) t m
     unfolding confirm-all pending-listings count state-of view
-    going-more t m h k long q =
+    going-more t m h small long q =
         let i : Id = listed at xs in
         let is : List Id = ids-of (drop (at + 32) xs) in
-        let e : Estimator = confirm base B i (view base s l) in
-        let w : Well e = well-confirm base B i (view base s l) (listed-length xs at h) k (g .ready .well) in
-        let v = within-confirm base B i (view base s l) in
-        let r : Room base e l = record { pending = le-trans (v .pending) (g .ready .room .pending); recent = omega (arith, v .recent, room-for-one h, used-recent s l (g .ready)) } in
-        let fewer : count (λ j. is-pending j (e .pending)) is ≤ count (λ j. is-pending j (view base s l .pending)) is = count-le (λ j. is-pending j (e .pending)) (λ j. is-pending j (view base s l .pending)) (λ j y. v .ids j y) is in
-        let seen : view base t m ≡ e = seen-after l e w q in
+        let e : Estimator = confirm k B i (view k s l) in
+        let w : Well e = well-confirm k B i (view k s l) (listed-length xs at h) small (g .ready .well) in
+        let v = within-confirm k B i (view k s l) in
+        let r : Room k e l = record { pending = le-trans (v .pending) (g .ready .room .pending); recent = omega (arith, v .recent, room-for-one h, used-recent k law s l (g .ready)) } in
+        let fewer : count (λ j. is-pending j (e .pending)) is ≤ count (λ j. is-pending j (view k s l .pending)) is = count-le (λ j. is-pending j (e .pending)) (λ j. is-pending j (view k s l .pending)) (λ j y. v .ids j y) is in
+        let seen : view k t m ≡ e = seen-after k law l e w q in
         let used : t .recent ≡ length (e .recent) = ap (λ (o : Outcome Lent). o .state .recent) q in
-        let capacity : confirmed-capacity (m .recent) ≡ confirmed-capacity (l .recent) = ap (λ (o : Outcome Lent). confirmed-capacity (o .lent .recent)) q ∙ same-recent e l w r in
-        let listed : pending-listings base t m is ≡ count (λ j. is-pending j (e .pending)) is = ap (λ (x : Estimator). count (λ j. is-pending j (x .pending)) is) seen in
-        let before : count (λ j. is-pending j (view base s l .pending)) (ids-of (drop at xs)) ≡ bit (is-pending i (view base s l .pending)) + count (λ j. is-pending j (view base s l .pending)) is =
-        ap (count (λ j. is-pending j (view base s l .pending))) (ids-more xs at h) in
+        let capacity : confirmed-capacity (m .recent) ≡ confirmed-capacity (l .recent) = ap (λ (o : Outcome Lent). confirmed-capacity (o .lent .recent)) q ∙ same-recent k law e l w r in
+        let listed : pending-listings k t m is ≡ count (λ j. is-pending j (e .pending)) is = ap (λ (x : Estimator). count (λ j. is-pending j (x .pending)) is) seen in
+        let before : count (λ j. is-pending j (view k s l .pending)) (ids-of (drop at xs)) ≡ bit (is-pending i (view k s l .pending)) + count (λ j. is-pending j (view k s l .pending)) is =
+        ap (count (λ j. is-pending j (view k s l .pending))) (ids-more xs at h) in
         record {
           within = omega (arith, g .within);
           long = long;
-          ready = ready-after l e w r q;
-          room = omega (arith, g .room, used, capacity, listed, before, fewer, v .recent, used-recent s l (g .ready));
-          left = step-after {s = t} {l = m} l e (λ (x : Estimator). confirm-all base B is x) w r q refl
-              ∙ ap (λ (js : List Id). accepted base (confirm-all base B js (view base s l)) l) (sym (ids-more xs at h))
+          ready = ready-after k law l e w r q;
+          room = omega (arith, g .room, used, capacity, listed, before, fewer, v .recent, used-recent k law s l (g .ready));
+          left = step-after k law {s = t} {l = m} l e (λ (x : Estimator). confirm-all k B is x) w r q refl
+              ∙ ap (λ (js : List Id). accepted k (confirm-all k B js (view k s l)) l) (sym (ids-more xs at h))
               ∙ g .left;
         }
 
-    pub going-all : length xs - at < 32 → outcome done s l ≡ accepted base (confirm-all base B (ids-of xs) (view base s₀ l₀)) l₀
+    pub going-all : length xs - at < 32 → outcome done s l ≡ accepted k (confirm-all k B (ids-of xs) (view k s₀ l₀)) l₀
     unfolding confirm-all
     going-all h =
-        step-none s l (g .ready)
-        ∙ ap (λ (js : List Id). accepted base (confirm-all base B js (view base s l)) l) (sym (ids-none xs at h))
+        step-none k law s l (g .ready)
+        ∙ ap (λ (js : List Id). accepted k (confirm-all k B js (view k s l)) l) (sym (ids-none xs at h))
         ∙ g .left

@@ -13,7 +13,7 @@ use Rattle.kinds.specs.Answers.{done}
 use Rattle.rules.specs.Lists.{bit}
 use Rattle.rules.specs.Ids.{Id, same}
 use Rattle.rules.specs.Counts.{places-of-counts, gain}
-use Rattle.rules.specs.Board.{base, Pending}
+use Rattle.rules.specs.Board.{Board, Lawful, Pending}
 use Rattle.rules.specs.Estimator.{find, without, holds, become, wait, tx-left, record-confirmation, confirm}
 use Rattle.rules.specs.Memory.{Lent, lent, pending-records, confirmed-records, lay-pending, lay-confirmed, view, state-of, lay}
 use Rattle.rules.specs.Calls.{Outcome, outcome, accepted}
@@ -37,20 +37,20 @@ of-found {P} i (more {a} {l} h hs) q e = go (same (a .id) i) e (of-found i hs q)
 pub room-for-it : (n m : ℕ) (t : Bool) → true ≡ t → n + bit t ≤ m → n < m
 room-for-it n m t e h = let k : n + 1 ≤ m = rw (sym e) at h in omega arith
 
-module _ (s : State) (l : Lent) (r : Ready s l) (B : ℕ) (i : Id) where
+module _ (k : Board) (law : Lawful k) (s : State) (l : Lent) (r : Ready k s l) (B : ℕ) (i : Id) where
   -- it is not pending
-  pub unlisted : find i (pending-records base (s .pending) (l .pending)) ≡ none
-      → outcome done s l ≡ accepted base (record-confirmation base B i (find i (pending-records base (s .pending) (l .pending))) (view base s l)) l
+  pub unlisted : find i (pending-records k (s .pending) (l .pending)) ≡ none
+      → outcome done s l ≡ accepted k (record-confirmation k B i (find i (pending-records k (s .pending) (l .pending))) (view k s l)) l
   unfolding record-confirmation
-  unlisted e = rw e (step-none s l r)
+  unlisted e = rw e (step-none k law s l r)
 
   -- its confirmed record holds exactly B: it goes uncounted
   pub uncounted : holds i B (confirmed-records (s .recent) (l .recent)) ≡ true → (n : ℕ) (p : List ℕ)
-      → n ≡ length (without i (pending-records base (s .pending) (l .pending))) → p ≡ lay-pending base (without i (pending-records base (s .pending) (l .pending))) (l .pending)
-      → outcome done (record { last = s .last; pending = n; recent = s .recent }) (lent (l .confirmed) (l .resolved) p (l .recent)) ≡ accepted base (confirm base B i (view base s l)) l
+      → n ≡ length (without i (pending-records k (s .pending) (l .pending))) → p ≡ lay-pending k (without i (pending-records k (s .pending) (l .pending))) (l .pending)
+      → outcome done (record { last = s .last; pending = n; recent = s .recent }) (lent (l .confirmed) (l .resolved) p (l .recent)) ≡ accepted k (confirm k B i (view k s l)) l
   unfolding confirm tx-left view state-of lay
   uncounted e n p many laid =
-      let m = used-recent s l r in
+      let m = used-recent k law s l r in
       let c = take-append-drop places-of-counts (l .confirmed) in
       let d = take-append-drop places-of-counts (l .resolved) in
       let t = ap (λ (m : Lent). m .recent) (r .own) in
@@ -58,11 +58,11 @@ module _ (s : State) (l : Lent) (r : Ready s l) (B : ℕ) (i : Id) where
 
   -- it does not: it is counted if it is pending
   pub not-uncounted : holds i B (confirmed-records (s .recent) (l .recent)) ≡ false → {o : Outcome Lent}
-      → o ≡ accepted base (record-confirmation base B i (find i (pending-records base (s .pending) (l .pending))) (view base s l)) l → o ≡ accepted base (confirm base B i (view base s l)) l
+      → o ≡ accepted k (record-confirmation k B i (find i (pending-records k (s .pending) (l .pending))) (view k s l)) l → o ≡ accepted k (confirm k B i (view k s l)) l
   unfolding confirm view
   not-uncounted e q = rw e q
 
-  module _ (q : Pending) (e : find i (pending-records base (s .pending) (l .pending)) ≡ some q) where
+  module _ (q : Pending) (e : find i (pending-records k (s .pending) (l .pending)) ≡ some q) where
     -- its bucket is one of the 142
     pub bucket-fits : q .bucket ≤ 141
     unfolding view
@@ -70,16 +70,16 @@ module _ (s : State) (l : Lent) (r : Ready s l) (B : ℕ) (i : Id) where
 
     -- it is pending: it goes, its confirmed height becomes B, and it is counted
     pub counted : (n m b x u : ℕ) (c d : List Float) (p t : List ℕ) → b ≡ q .bucket → x ≡ q .entry → u ≡ q .through
-        → c ≡ gain b (λ k. leb (wait B x) (base .width * k)) (l .confirmed) → d ≡ gain b (λ k. ltb u k) (l .resolved)
-        → (n ≡ length (without i (pending-records base (s .pending) (l .pending)))) × (p ≡ lay-pending base (without i (pending-records base (s .pending) (l .pending))) (l .pending))
+        → c ≡ gain b (λ c. leb (wait B x) (k .width * c)) (l .confirmed) → d ≡ gain b (λ c. ltb u c) (l .resolved)
+        → (n ≡ length (without i (pending-records k (s .pending) (l .pending)))) × (p ≡ lay-pending k (without i (pending-records k (s .pending) (l .pending))) (l .pending))
         → (m ≡ length (become i B (confirmed-records (s .recent) (l .recent)))) × (t ≡ lay-confirmed (become i B (confirmed-records (s .recent) (l .recent))) (l .recent))
         → outcome done (record { last = s .last; pending = n; recent = m }) (lent c d p t)
-        ≡ accepted base (record-confirmation base B i (find i (pending-records base (s .pending) (l .pending))) (view base s l)) l
+        ≡ accepted k (record-confirmation k B i (find i (pending-records k (s .pending) (l .pending))) (view k s l)) l
     unfolding record-confirmation view state-of lay
     counted n m b x u c d p t eb ex eu ec ed ep et =
         let within : q .bucket < 142 = omega (arith, bucket-fits) in
-        let first : c ≡ gain (q .bucket) (λ k. leb (wait B (q .entry)) (base .width * k)) (take places-of-counts (l .confirmed)) ++ drop places-of-counts (l .confirmed) =
-        ec ∙ ap₂ (λ (b x : ℕ). gain b (λ k. leb (wait B x) (base .width * k)) (l .confirmed)) eb ex ∙ gain-first (q .bucket) _ (l .confirmed) within (confirmed-places s l r) in
-        let second : d ≡ gain (q .bucket) (λ k. ltb (q .through) k) (take places-of-counts (l .resolved)) ++ drop places-of-counts (l .resolved) =
-        ed ∙ ap₂ (λ (b u : ℕ). gain b (λ k. ltb u k) (l .resolved)) eb eu ∙ gain-first (q .bucket) _ (l .resolved) within (resolved-places s l r) in
+        let first : c ≡ gain (q .bucket) (λ c. leb (wait B (q .entry)) (k .width * c)) (take places-of-counts (l .confirmed)) ++ drop places-of-counts (l .confirmed) =
+        ec ∙ ap₂ (λ (b x : ℕ). gain b (λ c. leb (wait B x) (k .width * c)) (l .confirmed)) eb ex ∙ gain-first (q .bucket) _ (l .confirmed) within (confirmed-places k law s l r) in
+        let second : d ≡ gain (q .bucket) (λ c. ltb (q .through) c) (take places-of-counts (l .resolved)) ++ drop places-of-counts (l .resolved) =
+        ed ∙ ap₂ (λ (b u : ℕ). gain b (λ c. ltb u c) (l .resolved)) eb eu ∙ gain-first (q .bucket) _ (l .resolved) within (resolved-places k law s l r) in
         rw e (cc)

@@ -3,6 +3,7 @@ mod step;
 mod tables;
 
 use kinds::Height;
+use kinds::Horizon;
 use kinds::State;
 pub use step::confirm;
 pub use tables::forget;
@@ -13,22 +14,22 @@ ghost use Prim.Native.Nat.{_+_, _≤_};
 ghost use Rattle.kinds.specs.Answers.{done};
 ghost use Rattle.rules.specs.Lists.{count};
 ghost use Rattle.rules.specs.Records.{sound-table};
-ghost use Rattle.rules.specs.Board.{base, pending-size, pending-most};
+ghost use Rattle.rules.specs.Board.{board-of, pending-most};
 ghost use Rattle.rules.specs.Estimator.{is-pending, confirm-all};
 ghost use Rattle.rules.specs.Memory.{lent, view, pending-records, confirmed-capacity};
 ghost use Rattle.rules.specs.Calls.{outcome, accepted, ids-of, pending-listings};
 ghost use Rattle.ready.specs.Ready.{Ready};
 
 // How many of the listed ids are pending, each listing counted.
-pub fn pending_listings(pending: &[u8], used: usize, ids: &[u8]) -> usize
-    requires { ⌜ sound-table pending-size pending-most used (now pending) ≡ true ⌝ }
-    ensures { λ r. ⌜ r ≡ count (λ i. is-pending i (pending-records base used (now (pending .entry)))) (ids-of (now (ids .entry))) ⌝ }
+pub fn pending_listings(pending: &[u8], used: usize, ids: &[u8], on: Horizon) -> usize
+    requires { ⌜ sound-table (board-of on .table .size) pending-most used (now pending) ≡ true ⌝ }
+    ensures { λ r. ⌜ r ≡ count (λ i. is-pending i (pending-records (board-of on) used (now (pending .entry)))) (ids-of (now (ids .entry))) ⌝ }
 {
     let mut n: usize = 0;
     let mut at: usize = 0;
     while 32 <= ids.len() - at {
         let end = at + 32;
-        if is_pending(pending, used, &ids[at..end]) {
+        if is_pending(pending, used, &ids[at..end], on) {
             n += 1;
         }
         at = end;
@@ -45,19 +46,29 @@ pub fn confirm_all(
     recent: &mut [u8],
     ids: &[u8],
     h: Height,
+    on: Horizon,
 ) -> State
-    requires { ⌜ Ready state (lent (now confirmed) (now resolved) (now pending) (now recent)) ⌝ }
-    requires { ⌜ state .recent + pending-listings base state (lent (now confirmed) (now resolved) (now pending) (now recent)) (ids-of (now ids)) ≤ confirmed-capacity (now recent) ⌝ }
+    requires { ⌜ Ready (board-of on) state (lent (now confirmed) (now resolved) (now pending) (now recent)) ⌝ }
+    requires { ⌜ state .recent + pending-listings (board-of on) state (lent (now confirmed) (now resolved) (now pending) (now recent)) (ids-of (now ids)) ≤ confirmed-capacity (now recent) ⌝ }
     ensures { λ r. ⌜
         outcome done r (lent (now (confirmed .exit)) (now (resolved .exit)) (now (pending .exit)) (now (recent .exit)))
-        ≡ accepted base (confirm-all base (h .0) (ids-of (now (ids .entry))) (view base state (lent (now (confirmed .entry)) (now (resolved .entry)) (now (pending .entry)) (now (recent .entry)))))
+        ≡ accepted (board-of on) (confirm-all (board-of on) (h .0) (ids-of (now (ids .entry))) (view (board-of on) state (lent (now (confirmed .entry)) (now (resolved .entry)) (now (pending .entry)) (now (recent .entry)))))
         (lent (now (confirmed .entry)) (now (resolved .entry)) (now (pending .entry)) (now (recent .entry))) ⌝ }
 {
     let mut s = state;
     let mut at: usize = 0;
     while 32 <= ids.len() - at {
         let end = at + 32;
-        s = confirm(s, confirmed, resolved, pending, recent, &ids[at..end], h);
+        s = confirm(
+            s,
+            confirmed,
+            resolved,
+            pending,
+            recent,
+            &ids[at..end],
+            h,
+            on,
+        );
         at = end;
     }
     s

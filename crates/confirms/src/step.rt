@@ -4,6 +4,7 @@ use crate::tables::holds;
 use crate::tables::note_height;
 use kinds::Blocks;
 use kinds::Height;
+use kinds::Horizon;
 use kinds::State;
 use table::Found;
 use table::PendingEntry;
@@ -14,7 +15,7 @@ ghost use lib.ListN.{length};
 ghost use Rattle.kinds.specs.Answers.{done};
 ghost use Rattle.rules.specs.Lists.{bit};
 ghost use Rattle.rules.specs.Counts.{gain};
-ghost use Rattle.rules.specs.Board.{base};
+ghost use Rattle.rules.specs.Board.{board-of};
 ghost use Rattle.rules.specs.Estimator.{is-pending, find, wait, record-confirmation, confirm};
 ghost use Rattle.rules.specs.Memory.{lent, view, pending-records, confirmed-capacity};
 ghost use Rattle.rules.specs.Calls.{outcome, accepted};
@@ -34,14 +35,14 @@ fn waited(entry: Height, h: Height) -> Blocks
 }
 
 // Counts the confirmation at h of a pending record.
-fn count(confirmed: &mut [f64], resolved: &mut [f64], r: PendingEntry, h: Height)
+fn count(confirmed: &mut [f64], resolved: &mut [f64], r: PendingEntry, h: Height, on: Horizon)
     requires { ⌜ (r .bucket ≤ 141) × (3550 ≤ length (now confirmed)) × (3550 ≤ length (now resolved)) ⌝ }
-    ensures { λ _. ⌜ now (confirmed .exit) ≡ gain (r .bucket) (λ c. leb (wait (h .0) (r .entry .0)) (base .width * c)) (now (confirmed .entry)) ⌝ }
+    ensures { λ _. ⌜ now (confirmed .exit) ≡ gain (r .bucket) (λ c. leb (wait (h .0) (r .entry .0)) (board-of on .width * c)) (now (confirmed .entry)) ⌝ }
     ensures { λ _. ⌜ now (resolved .exit) ≡ gain (r .bucket) (λ c. ltb (r .through) c) (now (resolved .entry)) ⌝ }
 {
     let bucket = r.bucket;
     let through = r.through;
-    let first = counts::first_column(waited(r.entry, h), Blocks(1));
+    let first = counts::first_column(waited(r.entry, h), boards::width_of(on));
     counts::count_confirmation(confirmed, resolved, bucket as usize, through, first);
 }
 
@@ -54,24 +55,32 @@ fn record_confirmation(
     recent: &mut [u8],
     id: &[u8],
     h: Height,
+    on: Horizon,
 ) -> State
-    requires { ⌜ Ready state (lent (now confirmed) (now resolved) (now pending) (now recent)) ⌝ }
-    requires { ⌜ state .recent + bit (is-pending (now id) (pending-records base (state .pending) (now pending))) ≤ confirmed-capacity (now recent) ⌝ }
+    requires { ⌜ Ready (board-of on) state (lent (now confirmed) (now resolved) (now pending) (now recent)) ⌝ }
+    requires { ⌜ state .recent + bit (is-pending (now id) (pending-records (board-of on) (state .pending) (now pending))) ≤ confirmed-capacity (now recent) ⌝ }
     requires { ⌜ length (now id) ≡ 32 ⌝ }
     ensures { λ r. ⌜
         outcome done r (lent (now (confirmed .exit)) (now (resolved .exit)) (now (pending .exit)) (now (recent .exit)))
-        ≡ accepted base
-        (record-confirmation base (h .0) (now (id .entry)) (find (now (id .entry)) (pending-records base (state .pending) (now (pending .entry))))
-        (view base state (lent (now (confirmed .entry)) (now (resolved .entry)) (now (pending .entry)) (now (recent .entry)))))
+        ≡ accepted (board-of on)
+        (record-confirmation (board-of on) (h .0) (now (id .entry)) (find (now (id .entry)) (pending-records (board-of on) (state .pending) (now (pending .entry))))
+        (view (board-of on) state (lent (now (confirmed .entry)) (now (resolved .entry)) (now (pending .entry)) (now (recent .entry)))))
         (lent (now (confirmed .entry)) (now (resolved .entry)) (now (pending .entry)) (now (recent .entry))) ⌝ }
 {
     let last = state.last;
     let used = state.pending;
     let kept = state.recent;
-    match table::find(pending, 44, used, id) {
+    let size = boards::record_size(on);
+    match table::find(pending, size, used, id) {
         Found::At(i) => {
-            count(confirmed, resolved, table::pending_at(pending, used, i), h);
-            table::remove(pending, 44, used, i);
+            count(
+                confirmed,
+                resolved,
+                table::pending_at(pending, size, used, i),
+                h,
+                on,
+            );
+            table::remove(pending, size, used, i);
             let left = used - 1;
             State {
                 last: last,
@@ -92,14 +101,15 @@ pub fn confirm(
     recent: &mut [u8],
     id: &[u8],
     h: Height,
+    on: Horizon,
 ) -> State
-    requires { ⌜ Ready state (lent (now confirmed) (now resolved) (now pending) (now recent)) ⌝ }
-    requires { ⌜ state .recent + bit (is-pending (now id) (pending-records base (state .pending) (now pending))) ≤ confirmed-capacity (now recent) ⌝ }
+    requires { ⌜ Ready (board-of on) state (lent (now confirmed) (now resolved) (now pending) (now recent)) ⌝ }
+    requires { ⌜ state .recent + bit (is-pending (now id) (pending-records (board-of on) (state .pending) (now pending))) ≤ confirmed-capacity (now recent) ⌝ }
     requires { ⌜ length (now id) ≡ 32 ⌝ }
     ensures { λ r. ⌜
         outcome done r (lent (now (confirmed .exit)) (now (resolved .exit)) (now (pending .exit)) (now (recent .exit)))
-        ≡ accepted base
-        (confirm base (h .0) (now (id .entry)) (view base state (lent (now (confirmed .entry)) (now (resolved .entry)) (now (pending .entry)) (now (recent .entry)))))
+        ≡ accepted (board-of on)
+        (confirm (board-of on) (h .0) (now (id .entry)) (view (board-of on) state (lent (now (confirmed .entry)) (now (resolved .entry)) (now (pending .entry)) (now (recent .entry)))))
         (lent (now (confirmed .entry)) (now (resolved .entry)) (now (pending .entry)) (now (recent .entry))) ⌝ }
 {
     let last = state.last;
@@ -108,9 +118,9 @@ pub fn confirm(
     if holds(recent, kept, id, h) {
         return State {
             last: last,
-            pending: forget(pending, used, id),
+            pending: forget(pending, used, id, on),
             recent: kept,
         };
     }
-    record_confirmation(state, confirmed, resolved, pending, recent, id, h)
+    record_confirmation(state, confirmed, resolved, pending, recent, id, h, on)
 }

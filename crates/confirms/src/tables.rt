@@ -1,37 +1,40 @@
 // One table, by an id.
 use kinds::Height;
+use kinds::Horizon;
 use table::Found;
 ghost use mathlib.Core.Path.{_≡_};
 ghost use mathlib.Core.Bool.{true};
 ghost use Prim.Native.Nat.{_<_};
 ghost use lib.ListN.{length};
 ghost use Rattle.rules.specs.Records.{sound-table};
-ghost use Rattle.rules.specs.Board.{base, pending-size, pending-most, confirmed-size, confirmed-most};
+ghost use Rattle.rules.specs.Board.{board-of, pending-most, confirmed-size, confirmed-most};
 ghost use Rattle.rules.specs.Estimator.{is-pending, without, holds, become};
 ghost use Rattle.rules.specs.Memory.{pending-records, lay-pending, confirmed-records, confirmed-capacity, lay-confirmed};
 
 // Whether there is a pending record of the id.
-pub fn is_pending(pending: &[u8], used: usize, id: &[u8]) -> bool
-    requires { ⌜ sound-table pending-size pending-most used (now pending) ≡ true ⌝ }
+pub fn is_pending(pending: &[u8], used: usize, id: &[u8], on: Horizon) -> bool
+    requires { ⌜ sound-table (board-of on .table .size) pending-most used (now pending) ≡ true ⌝ }
     requires { ⌜ length (now id) ≡ 32 ⌝ }
-    ensures { λ r. ⌜ r ≡ is-pending (now (id .entry)) (pending-records base used (now (pending .entry))) ⌝ }
+    ensures { λ r. ⌜ r ≡ is-pending (now (id .entry)) (pending-records (board-of on) used (now (pending .entry))) ⌝ }
 {
-    match table::find(pending, 44, used, id) {
+    let size = boards::record_size(on);
+    match table::find(pending, size, used, id) {
         Found::At(_) => true,
         Found::Gap(_) => false,
     }
 }
 
 // The pending record of the id goes, if there is one. The answer is how many are left.
-pub fn forget(pending: &mut [u8], used: usize, id: &[u8]) -> usize
-    requires { ⌜ sound-table pending-size pending-most used (now pending) ≡ true ⌝ }
+pub fn forget(pending: &mut [u8], used: usize, id: &[u8], on: Horizon) -> usize
+    requires { ⌜ sound-table (board-of on .table .size) pending-most used (now pending) ≡ true ⌝ }
     requires { ⌜ length (now id) ≡ 32 ⌝ }
-    ensures { λ r. ⌜ r ≡ length (without (now (id .entry)) (pending-records base used (now (pending .entry)))) ⌝ }
-    ensures { λ _. ⌜ now (pending .exit) ≡ lay-pending base (without (now (id .entry)) (pending-records base used (now (pending .entry)))) (now (pending .entry)) ⌝ }
+    ensures { λ r. ⌜ r ≡ length (without (now (id .entry)) (pending-records (board-of on) used (now (pending .entry)))) ⌝ }
+    ensures { λ _. ⌜ now (pending .exit) ≡ lay-pending (board-of on) (without (now (id .entry)) (pending-records (board-of on) used (now (pending .entry)))) (now (pending .entry)) ⌝ }
 {
-    match table::find(pending, 44, used, id) {
+    let size = boards::record_size(on);
+    match table::find(pending, size, used, id) {
         Found::At(i) => {
-            table::remove(pending, 44, used, i);
+            table::remove(pending, size, used, i);
             used - 1
         }
         Found::Gap(_) => used,

@@ -1,37 +1,17 @@
-// THE PUBLIC CALLS. Each is what its definition in rules/specs/Calls or format/specs/Calls says, for every input; none asks anything of its caller.
-mod block;
-mod column;
-
-use block::connect;
-use block::judge_block;
-use column::column_of;
-use confirms::forget;
-use confirms::is_pending;
-use counts::rate_in_column;
-use counts::sound_counts;
-use kinds::BlockAnswer;
+// THE PUBLIC CALLS, of the base board. Each is what its definition in rules/specs/Calls or format/specs/Calls says, for every input; none asks anything of
+// its caller. The bodies are in `calls` and `history`.
 use kinds::Blocks;
 use kinds::Connected;
-use kinds::EnterAnswer;
 use kinds::Entered;
 use kinds::Estimated;
 use kinds::FeeRate;
 use kinds::Height;
-use kinds::Last;
-use kinds::LeaveAnswer;
+use kinds::Horizon;
 use kinds::Left;
 use kinds::Reading;
-use kinds::StartAnswer;
 use kinds::Started;
 use kinds::State;
 use kinds::Written;
-use memory::clear_counts;
-use memory::clear_table;
-use passes::judge_pending;
-use table::Found;
-use table::capacity;
-use table::find;
-use table::insert_pending;
 ghost use mathlib.Core.Path.{_≡_};
 ghost use Rattle.kinds.specs.Answers.{start-answer, enter-answer, leave-answer, block-answer, estimate-answer, write-answer, read-answer};
 ghost use Rattle.rules.specs.Ladder.{bucket-index};
@@ -52,31 +32,7 @@ pub fn new(
         outcome (start-answer (r .answer)) (r .state) (lent (now (confirmed .exit)) (now (resolved .exit)) (now (pending .exit)) (now (recent .exit)))
         ≡ start-call base (lent (now (confirmed .entry)) (now (resolved .entry)) (now (pending .entry)) (now (recent .entry))) ⌝ }
 {
-    let state = State {
-        last: Last::Nothing,
-        pending: 0,
-        recent: 0,
-    };
-    if confirmed.len() < 3550 {
-        return Started {
-            answer: StartAnswer::Damaged,
-            state,
-        };
-    }
-    if resolved.len() < 3550 {
-        return Started {
-            answer: StartAnswer::Damaged,
-            state,
-        };
-    }
-    clear_counts(confirmed);
-    clear_counts(resolved);
-    clear_table(pending, 44, 10000);
-    clear_table(recent, 36, 1000000);
-    Started {
-        answer: StartAnswer::Done,
-        state,
-    }
+    calls::new(confirmed, resolved, pending, recent, Horizon::Base)
 }
 
 // Enter (id, rate, height).
@@ -89,68 +45,14 @@ pub fn tx_entered(
 ) -> Entered
     ensures { λ r. ⌜ outcome (enter-answer (r .answer)) (r .state) (now (pending .exit)) ≡ enter-call base state (now (pending .entry)) (now (id .entry)) rate height ⌝ }
 {
-    let used = state.pending;
-    if !judge_pending(pending, used) {
-        return Entered {
-            answer: EnterAnswer::Damaged,
-            state,
-        };
-    }
-    match find(pending, 44, used, id) {
-        Found::At(_) => Entered {
-            answer: EnterAnswer::AlreadyPending,
-            state,
-        },
-        Found::Gap(at) => {
-            if used == capacity(pending, 44, 10000) {
-                return Entered {
-                    answer: EnterAnswer::PendingFull,
-                    state,
-                };
-            }
-            let bucket = ladder::bucket_index_for_rate(rate) as u32;
-            insert_pending(pending, used, at, id, bucket, height);
-            let last = state.last;
-            let recent = state.recent;
-            Entered {
-                answer: EnterAnswer::Done,
-                state: State {
-                    last,
-                    pending: used + 1,
-                    recent,
-                },
-            }
-        }
-    }
+    calls::tx_entered(state, pending, id, rate, height, Horizon::Base)
 }
 
 // Leave (id).
 pub fn tx_left(state: State, pending: &mut [u8], id: &[u8; 32]) -> Left
     ensures { λ r. ⌜ outcome (leave-answer (r .answer)) (r .state) (now (pending .exit)) ≡ leave-call base state (now (pending .entry)) (now (id .entry)) ⌝ }
 {
-    let used = state.pending;
-    if !judge_pending(pending, used) {
-        return Left {
-            answer: LeaveAnswer::Damaged,
-            state,
-        };
-    }
-    if !is_pending(pending, used, id) {
-        return Left {
-            answer: LeaveAnswer::Absent,
-            state,
-        };
-    }
-    let last = state.last;
-    let recent = state.recent;
-    Left {
-        answer: LeaveAnswer::Done,
-        state: State {
-            last,
-            pending: forget(pending, used, id),
-            recent,
-        },
-    }
+    calls::tx_left(state, pending, id, Horizon::Base)
 }
 
 // Block (ids, height).
@@ -167,30 +69,23 @@ pub fn block_connected(
         outcome (block-answer (r .answer)) (r .state) (lent (now (confirmed .exit)) (now (resolved .exit)) (now (pending .exit)) (now (recent .exit)))
         ≡ block-call base state (lent (now (confirmed .entry)) (now (resolved .entry)) (now (pending .entry)) (now (recent .entry))) (now (ids .entry)) height ⌝ }
 {
-    let answer = judge_block(state, confirmed, resolved, pending, recent, ids, height);
-    let BlockAnswer::Done = answer else {
-        return Connected { answer, state };
-    };
-    Connected {
-        answer,
-        state: connect(state, confirmed, resolved, pending, recent, ids, height),
-    }
+    calls::block_connected(
+        state,
+        confirmed,
+        resolved,
+        pending,
+        recent,
+        ids,
+        height,
+        Horizon::Base,
+    )
 }
 
 // The rate at which a transaction is confirmed within the target.
 pub fn estimate(state: State, confirmed: &[f64], resolved: &[f64], target: Blocks) -> Estimated
     ensures { λ r. ⌜ estimate-answer r ≡ estimate-call base state (now (confirmed .entry)) (now (resolved .entry)) target ⌝ }
 {
-    if !sound_counts(confirmed) {
-        return Estimated::Damaged;
-    }
-    if !sound_counts(resolved) {
-        return Estimated::Damaged;
-    }
-    if target.0 == 0 {
-        return Estimated::NoRate;
-    }
-    rate_in_column(confirmed, resolved, column_of(target))
+    calls::estimate(state, confirmed, resolved, target, Horizon::Base)
 }
 
 // The bucket that a rate belongs to.

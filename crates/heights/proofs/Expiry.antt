@@ -10,7 +10,7 @@ use native.Mathlib.Omega.{arith}
 use lib.Dec.{leb, ltb}
 use lib.ListN.{length, take, drop, getD, length-map, length-append, take-append-drop, drop-of-length-le, List·getD-map}
 use lib.Seq.{drop-cons, take-at, drop-at, length-take-le}
-use Rattle.rules.specs.Board.{Board, Pending, base, pending-of}
+use Rattle.rules.specs.Board.{Board, Pending}
 use Rattle.rules.specs.Counts.{Counts, places-of-counts, gain}
 use Rattle.rules.specs.Records.{records}
 use Rattle.rules.specs.Estimator.{outwaited, expire-targets}
@@ -28,57 +28,57 @@ all-at (more p ps) (suc i) d h = all-at ps i d (le-of-suc-le-suc h)
 
 -- ---- pending records by their number
 
-module _ (used : ℕ) (xs : List ℕ) where
-  how-many : length (pending-records base used xs) ≡ used
+module _ (k : Board) (used : ℕ) (xs : List ℕ) where
+  how-many : length (pending-records k used xs) ≡ used
   unfolding pending-records
-  how-many = length-map (records 44 used xs) pending-of ∙ length-records 44 used xs
+  how-many = length-map (records (k .table .size) used xs) (k .table .read) ∙ length-records (k .table .size) used xs
 
-  number : (i : ℕ) → getD (pending-records base used xs) i (pending-of []) ≡ pending-of (getD (records 44 used xs) i [])
+  number : (i : ℕ) → getD (pending-records k used xs) i (k .table .read []) ≡ k .table .read (getD (records (k .table .size) used xs) i [])
   unfolding pending-records
-  number i = List·getD-map pending-of (records 44 used xs) i []
+  number i = List·getD-map (k .table .read) (records (k .table .size) used xs) i []
 
-  pub bucket-at : All WellPending (pending-records base used xs) → (i : ℕ) → i < used → pending-of (getD (records 44 used xs) i []) .bucket < 142
+  pub bucket-at : All WellPending (pending-records k used xs) → (i : ℕ) → i < used → k .table .read (getD (records (k .table .size) used xs) i []) .bucket < 142
   bucket-at w i h =
       let n = how-many in
-      let b = rw (number i) at (all-at w i (pending-of []) (omega arith) .bucket) in
+      let b = rw (number i) at (all-at w i (k .table .read []) (omega arith) .bucket) in
       omega arith
 
 -- counting from the record's own numbers
-pub one-expired : (h : ℕ) (r : Pending) (b t o : ℕ) (xs ys : Counts) → b ≡ r .bucket → t ≡ r .through → o ≡ outwaited base h r
-    → ys ≡ gain b (λ c. ltb t c && leb c o) xs → ys ≡ expire-targets base h (r ∷ []) xs
+pub one-expired : (k : Board) (h : ℕ) (r : Pending) (b t o : ℕ) (xs ys : Counts) → b ≡ r .bucket → t ≡ r .through → o ≡ outwaited k h r
+    → ys ≡ gain b (λ c. ltb t c && leb c o) xs → ys ≡ expire-targets k h (r ∷ []) xs
 unfolding expire-targets
-one-expired h r b t o xs ys p q s e = e ∙ rw (p, q, s)
+one-expired k h r b t o xs ys p q s e = e ∙ rw (p, q, s)
 
 -- ---- the loop: what is left, from here, is the whole
 
-pub record Going (h used : ℕ) (xs : List ℕ) (counts₀ counts : Counts) (i : ℕ) : Type 0 where
+pub record Going (k : Board) (h used : ℕ) (xs : List ℕ) (counts₀ counts : Counts) (i : ℕ) : Type 0 where
   pub within : i ≤ used
   pub long : length counts ≡ length counts₀
-  pub left : expire-targets base h (drop i (pending-records base used xs)) counts ≡ expire-targets base h (pending-records base used xs) counts₀
+  pub left : expire-targets k h (drop i (pending-records k used xs)) counts ≡ expire-targets k h (pending-records k used xs) counts₀
 
-module _ (h used : ℕ) (xs : List ℕ) where
-  pub start : (cs : Counts) → Going h used xs cs cs 0
+module _ (k : Board) (h used : ℕ) (xs : List ℕ) where
+  pub start : (cs : Counts) → Going k h used xs cs cs 0
   start cs = record { within = zero-le; long = refl; left = refl }
 
-  pub next : {cs ds es : Counts} {i : ℕ} → Going h used xs cs ds i → i < used → length es ≡ length ds
-      → es ≡ expire-targets base h (pending-of (getD (records 44 used xs) i []) ∷ []) ds → Going h used xs cs es (i + 1)
+  pub next : {cs ds es : Counts} {i : ℕ} → Going k h used xs cs ds i → i < used → length es ≡ length ds
+      → es ≡ expire-targets k h (k .table .read (getD (records (k .table .size) used xs) i []) ∷ []) ds → Going k h used xs cs es (i + 1)
   unfolding expire-targets
-  next {cs} {ds} {es} {i} g k l e =
-      let n = how-many used xs in
-      let rs : List Pending = pending-records base used xs in
-      let d : drop i rs ≡ pending-of (getD (records 44 used xs) i []) ∷ drop (suc i) rs =
-      drop-cons rs i (pending-of []) (omega arith) ∙ ap (λ (r : Pending). r ∷ drop (suc i) rs) (number used xs i) in
+  next {cs} {ds} {es} {i} g m l e =
+      let n = how-many k used xs in
+      let rs : List Pending = pending-records k used xs in
+      let d : drop i rs ≡ k .table .read (getD (records (k .table .size) used xs) i []) ∷ drop (suc i) rs =
+      drop-cons rs i (k .table .read []) (omega arith) ∙ ap (λ (r : Pending). r ∷ drop (suc i) rs) (number k used xs i) in
       record {
         within = omega arith;
         long = l ∙ g .long;
         left = rw (add-one i, e) (rw d at (g .left));
       }
 
-  pub stop : {cs ds : Counts} {i : ℕ} → Going h used xs cs ds i → used ≤ i → ds ≡ expire-targets base h (pending-records base used xs) cs
+  pub stop : {cs ds : Counts} {i : ℕ} → Going k h used xs cs ds i → used ≤ i → ds ≡ expire-targets k h (pending-records k used xs) cs
   unfolding expire-targets
-  stop {cs} {ds} {i} g k =
-      let n = how-many used xs in
-      rw (drop-of-length-le (pending-records base used xs) {i = i} (omega arith)) at (g .left)
+  stop {cs} {ds} {i} g m =
+      let n = how-many k used xs in
+      rw (drop-of-length-le (pending-records k used xs) {i = i} (omega arith)) at (g .left)
 
 -- ---- only the 3,550 counts gain; anything lent beyond is as it was
 

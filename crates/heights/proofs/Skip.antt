@@ -9,7 +9,7 @@ use Rattle.kinds.specs.declared.Last.{Last}
 use Rattle.kinds.specs.declared.Last.the-variants.{Nothing, At}
 use Rattle.kinds.specs.declared.State.{State}
 use Rattle.kinds.specs.Answers.{done}
-use Rattle.rules.specs.Board.{base}
+use Rattle.rules.specs.Board.{Board, Lawful}
 use Rattle.rules.specs.Estimator.{advance-height, advance-heights, skip-heights}
 use Rattle.rules.specs.Memory.{Lent, view}
 use Rattle.rules.specs.Calls.{Outcome, outcome, accepted}
@@ -21,56 +21,56 @@ use Rattle.ready.proofs.Facts.{Long, long-same, long-after}
 use Rattle.ready.proofs.Ready.{ready-after, step-after, step-none}
 
 -- i of the n heights after L are advanced
-pub record Going (L n : ℕ) (s₀ : State) (m : Lent) (s : State) (l : Lent) (i : ℕ) : Type 0 where
+pub record Going (k : Board) (L n : ℕ) (s₀ : State) (m : Lent) (s : State) (l : Lent) (i : ℕ) : Type 0 where
   pub within : i ≤ n
   pub long : Long m l
-  pub advanced : outcome done s l ≡ accepted base (advance-heights base L i (view base s₀ m)) m
+  pub advanced : outcome done s l ≡ accepted k (advance-heights k L i (view k s₀ m)) m
 
-module _ (L n : ℕ) (s₀ : State) (m : Lent) (r : Ready s₀ m) where
-  well : (i : ℕ) → Well (advance-heights base L i (view base s₀ m))
-  well i = well-advances base L i (view base s₀ m) (r .well)
+module _ (k : Board) (law : Lawful k) (L n : ℕ) (s₀ : State) (m : Lent) (r : Ready k s₀ m) where
+  well : (i : ℕ) → Well (advance-heights k L i (view k s₀ m))
+  well i = well-advances k L i (view k s₀ m) (r .well)
 
-  room : (i : ℕ) → Room base (advance-heights base L i (view base s₀ m)) m
+  room : (i : ℕ) → Room k (advance-heights k L i (view k s₀ m)) m
   room i =
-      let w = within-advances base L i (view base s₀ m) in
+      let w = within-advances k L i (view k s₀ m) in
       record { pending = omega (arith, w .pending, r .room .pending); recent = omega (arith, w .recent, r .room .recent) }
 
-  pub start : Going L n s₀ m s₀ m 0
+  pub start : Going k L n s₀ m s₀ m 0
   unfolding advance-heights
-  start = record { within = zero-le; long = long-same m; advanced = step-none s₀ m r }
+  start = record { within = zero-le; long = long-same m; advanced = step-none k law s₀ m r }
 
-  pub ready-still : {s : State} {l : Lent} {i : ℕ} → Going L n s₀ m s l i → Ready s l
-  ready-still {s} {l} {i} g = ready-after m (advance-heights base L i (view base s₀ m)) (well i) (room i) (g .advanced)
+  pub ready-still : {s : State} {l : Lent} {i : ℕ} → Going k L n s₀ m s l i → Ready k s l
+  ready-still {s} {l} {i} g = ready-after k law m (advance-heights k L i (view k s₀ m)) (well i) (room i) (g .advanced)
 
-  pub next : {s t : State} {l k : Lent} {i : ℕ} → Going L n s₀ m s l i → i < n → Long l k
-      → outcome done t k ≡ accepted base (advance-height base (L + (i + 1)) (view base s l)) l → Going L n s₀ m t k (i + 1)
+  pub next : {s t : State} {l l′ : Lent} {i : ℕ} → Going k L n s₀ m s l i → i < n → Long l l′
+      → outcome done t l′ ≡ accepted k (advance-height k (L + (i + 1)) (view k s l)) l → Going k L n s₀ m t l′ (i + 1)
   unfolding advance-heights
-  next {s} {t} {l} {k} {i} g h long e =
+  next {s} {t} {l} {l′} {i} g h long e =
       record {
         within = omega arith;
         long = long-after (g .long) long;
-        advanced = rw (add-one i) (step-after m (advance-heights base L i (view base s₀ m)) (advance-height base (L + suc i)) (well i) (room i) (g .advanced) (rw (add-one i) at e));
+        advanced = rw (add-one i) (step-after k law m (advance-heights k L i (view k s₀ m)) (advance-height k (L + suc i)) (well i) (room i) (g .advanced) (rw (add-one i) at e));
       }
 
-  pub stop : {s : State} {l : Lent} {i : ℕ} → Going L n s₀ m s l i → n ≤ i → outcome done s l ≡ accepted base (advance-heights base L n (view base s₀ m)) m
+  pub stop : {s : State} {l : Lent} {i : ℕ} → Going k L n s₀ m s l i → n ≤ i → outcome done s l ≡ accepted k (advance-heights k L n (view k s₀ m)) m
   stop {s} {l} {i} g h = let e : i ≡ n = omega (arith, g .within) in rw e at (g .advanced)
 
 -- ---- the heights strictly between the last one and B
 
-module _ (s : State) (m : Lent) (B : ℕ) where
+module _ (k : Board) (law : Lawful k) (s : State) (m : Lent) (B : ℕ) where
   -- what was done is what the last height asks for
-  asked : {last : Last} (o : Outcome Lent) → s .last ≡ last → o ≡ accepted base (skip-heights base last B (view base s m)) m → o ≡ accepted base (skip-heights base (s .last) B (view base s m)) m
-  asked o e q = q ∙ ap (λ (x : Last). accepted base (skip-heights base x B (view base s m)) m) (sym e)
+  asked : {last : Last} (o : Outcome Lent) → s .last ≡ last → o ≡ accepted k (skip-heights k last B (view k s m)) m → o ≡ accepted k (skip-heights k (s .last) B (view k s m)) m
+  asked o e q = q ∙ ap (λ (x : Last). accepted k (skip-heights k x B (view k s m)) m) (sym e)
 
-  pub no-last : Ready s m → s .last ≡ Nothing → outcome done s m ≡ accepted base (skip-heights base (s .last) B (view base s m)) m
+  pub no-last : Ready k s m → s .last ≡ Nothing → outcome done s m ≡ accepted k (skip-heights k (s .last) B (view k s m)) m
   unfolding skip-heights
-  no-last r e = asked (outcome done s m) e (step-none s m r)
+  no-last r e = asked (outcome done s m) e (step-none k law s m r)
 
   pub between : {t : State} {l : Lent} {low : Height} (n : ℕ) → s .last ≡ At low → n ≡ B - suc (low .0)
-      → outcome done t l ≡ accepted base (advance-heights base (low .0) n (view base s m)) m → outcome done t l ≡ accepted base (skip-heights base (s .last) B (view base s m)) m
+      → outcome done t l ≡ accepted k (advance-heights k (low .0) n (view k s m)) m → outcome done t l ≡ accepted k (skip-heights k (s .last) B (view k s m)) m
   unfolding skip-heights
   between {t} {l} n e q p = asked (outcome done t l) e (rw q at p)
 
-  pub none-between : {low : Height} → Ready s m → s .last ≡ At low → B ≤ low .0 → outcome done s m ≡ accepted base (skip-heights base (s .last) B (view base s m)) m
+  pub none-between : {low : Height} → Ready k s m → s .last ≡ At low → B ≤ low .0 → outcome done s m ≡ accepted k (skip-heights k (s .last) B (view k s m)) m
   unfolding advance-heights
-  none-between {low} r e h = between 0 e (omega arith) (step-none s m r)
+  none-between {low} r e h = between 0 e (omega arith) (step-none k law s m r)

@@ -1,6 +1,6 @@
 // Expiry: what pending records have outwaited at a height.
-use kinds::Blocks;
 use kinds::Height;
+use kinds::Horizon;
 ghost use mathlib.Core.Path.{_≡_};
 ghost use mathlib.Core.List.{[], _∷_, map};
 ghost use Prim.Native.Nat.{_*_, _≤_, _<_};
@@ -8,7 +8,7 @@ ghost use lib.Dec.{ltb};
 ghost use lib.ListN.{length, getD};
 ghost use Rattle.rules.specs.Lists.{keep};
 ghost use Rattle.rules.specs.Records.{records, laid};
-ghost use Rattle.rules.specs.Board.{base, pending-of};
+ghost use Rattle.rules.specs.Board.{board-of, pending-of};
 ghost use Rattle.rules.specs.Estimator.{expire-targets};
 ghost use Rattle.rules.specs.Memory.{pending-records};
 ghost use Rattle.rules.proofs.All.{All};
@@ -16,26 +16,28 @@ ghost use Rattle.rules.proofs.Well.{WellPending};
 ghost use Rattle.passes.specs.Fields.{raised};
 
 // Pending record number `i` gains one resolved for each column that it has outwaited since it was last looked at.
-fn expire_one(resolved: &mut [f64], pending: &[u8], used: usize, i: usize, h: Height)
-    requires { ⌜ (3550 ≤ length (now resolved)) × (i < used) × (used * 44 ≤ length (now pending)) ⌝ }
-    requires { ⌜ pending-of (getD (records 44 used (now pending)) i []) .bucket < 142 ⌝ }
-    ensures { λ _. ⌜ now (resolved .exit) ≡ expire-targets base (h .0) (pending-of (getD (records 44 used (now (pending .entry))) i []) ∷ []) (now (resolved .entry)) ⌝ }
+fn expire_one(resolved: &mut [f64], pending: &[u8], used: usize, i: usize, h: Height, on: Horizon)
+    requires { ⌜ (3550 ≤ length (now resolved)) × (i < used) × (used * board-of on .table .size ≤ length (now pending)) ⌝ }
+    requires { ⌜ board-of on .table .read (getD (records (board-of on .table .size) used (now pending)) i []) .bucket < 142 ⌝ }
+    ensures { λ _. ⌜ now (resolved .exit) ≡ expire-targets (board-of on) (h .0) (board-of on .table .read (getD (records (board-of on .table .size) used (now (pending .entry))) i []) ∷ []) (now (resolved .entry)) ⌝ }
 {
-    let r = table::pending_at(pending, used, i);
+    let size = boards::record_size(on);
+    let width = boards::width_of(on);
+    let r = table::pending_at(pending, size, used, i);
     let e = r.entry;
-    let reach = passes::outwaited(h, e, Blocks(1));
+    let reach = passes::outwaited(h, e, width);
     counts::count_expiry(resolved, r.bucket as usize, r.through, reach);
 }
 
 // Every pending record does.
-fn expire_targets(resolved: &mut [f64], pending: &[u8], used: usize, h: Height)
-    requires { ⌜ (3550 ≤ length (now resolved)) × (used * 44 ≤ length (now pending)) ⌝ }
-    requires { ⌜ All WellPending (pending-records base used (now pending)) ⌝ }
-    ensures { λ _. ⌜ now (resolved .exit) ≡ expire-targets base (h .0) (pending-records base used (now (pending .entry))) (now (resolved .entry)) ⌝ }
+fn expire_targets(resolved: &mut [f64], pending: &[u8], used: usize, h: Height, on: Horizon)
+    requires { ⌜ (3550 ≤ length (now resolved)) × (used * board-of on .table .size ≤ length (now pending)) ⌝ }
+    requires { ⌜ All WellPending (pending-records (board-of on) used (now pending)) ⌝ }
+    ensures { λ _. ⌜ now (resolved .exit) ≡ expire-targets (board-of on) (h .0) (pending-records (board-of on) used (now (pending .entry))) (now (resolved .entry)) ⌝ }
 {
     let mut i: usize = 0;
     while i < used {
-        expire_one(resolved, pending, used, i, h);
+        expire_one(resolved, pending, used, i, h, on);
         i += 1;
     }
 }
@@ -46,14 +48,17 @@ pub(crate) fn expire_pending(
     pending: &mut [u8],
     used: usize,
     h: Height,
+    on: Horizon,
 ) -> usize
-    requires { ⌜ (3550 ≤ length (now resolved)) × (used * 44 ≤ length (now pending)) ⌝ }
-    requires { ⌜ All WellPending (pending-records base used (now pending)) ⌝ }
-    ensures { λ _. ⌜ now (resolved .exit) ≡ expire-targets base (h .0) (pending-records base used (now (pending .entry))) (now (resolved .entry)) ⌝ }
-    ensures { λ r. ⌜ r ≡ length (keep (λ b. ltb (pending-of b .through) 25) (map (raised 1 (h .0)) (records 44 used (now (pending .entry))))) ⌝ }
-    ensures { λ _. ⌜ now (pending .exit) ≡ laid 44 used (keep (λ b. ltb (pending-of b .through) 25) (map (raised 1 (h .0)) (records 44 used (now (pending .entry))))) (now (pending .entry)) ⌝ }
+    requires { ⌜ (3550 ≤ length (now resolved)) × (used * board-of on .table .size ≤ length (now pending)) ⌝ }
+    requires { ⌜ All WellPending (pending-records (board-of on) used (now pending)) ⌝ }
+    ensures { λ _. ⌜ now (resolved .exit) ≡ expire-targets (board-of on) (h .0) (pending-records (board-of on) used (now (pending .entry))) (now (resolved .entry)) ⌝ }
+    ensures { λ r. ⌜ r ≡ length (keep (λ b. ltb (pending-of b .through) 25) (map (raised (board-of on .width) (h .0)) (records (board-of on .table .size) used (now (pending .entry))))) ⌝ }
+    ensures { λ _. ⌜ now (pending .exit) ≡ laid (board-of on .table .size) used (keep (λ b. ltb (pending-of b .through) 25) (map (raised (board-of on .width) (h .0)) (records (board-of on .table .size) used (now (pending .entry))))) (now (pending .entry)) ⌝ }
 {
-    expire_targets(resolved, pending, used, h);
-    passes::raise_through(pending, used, h, Blocks(1));
-    passes::drop_resolved(pending, used)
+    let size = boards::record_size(on);
+    let width = boards::width_of(on);
+    expire_targets(resolved, pending, used, h, on);
+    passes::raise_through(pending, size, used, h, width);
+    passes::drop_resolved(pending, size, used)
 }

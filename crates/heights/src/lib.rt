@@ -3,12 +3,13 @@ mod expire;
 
 use expire::expire_pending;
 use kinds::Height;
+use kinds::Horizon;
 use kinds::Last;
 use kinds::State;
 ghost use mathlib.Core.Path.{_≡_};
 ghost use Prim.Native.Nat.{_+_, _^_, _<_};
 ghost use Rattle.kinds.specs.Answers.{done};
-ghost use Rattle.rules.specs.Board.{base};
+ghost use Rattle.rules.specs.Board.{board-of};
 ghost use Rattle.rules.specs.Estimator.{advance-height, advance-heights, skip-heights};
 ghost use Rattle.rules.specs.Memory.{lent, view};
 ghost use Rattle.rules.specs.Calls.{outcome, accepted};
@@ -22,16 +23,17 @@ pub fn advance_height(
     pending: &mut [u8],
     recent: &mut [u8],
     h: Height,
+    on: Horizon,
 ) -> State
-    requires { ⌜ Ready state (lent (now confirmed) (now resolved) (now pending) (now recent)) ⌝ }
+    requires { ⌜ Ready (board-of on) state (lent (now confirmed) (now resolved) (now pending) (now recent)) ⌝ }
     ensures { λ r. ⌜
         outcome done r (lent (now (confirmed .exit)) (now (resolved .exit)) (now (pending .exit)) (now (recent .exit)))
-        ≡ accepted base (advance-height base (h .0) (view base state (lent (now (confirmed .entry)) (now (resolved .entry)) (now (pending .entry)) (now (recent .entry))))) (lent (now (confirmed .entry)) (now (resolved .entry)) (now (pending .entry)) (now (recent .entry))) ⌝ }
+        ≡ accepted (board-of on) (advance-height (board-of on) (h .0) (view (board-of on) state (lent (now (confirmed .entry)) (now (resolved .entry)) (now (pending .entry)) (now (recent .entry))))) (lent (now (confirmed .entry)) (now (resolved .entry)) (now (pending .entry)) (now (recent .entry))) ⌝ }
 {
     let used = state.pending;
     let kept = state.recent;
-    let waiting = expire_pending(resolved, pending, used, h);
-    counts::apply_decay(confirmed, resolved, 0.998);
+    let waiting = expire_pending(resolved, pending, used, h, on);
+    counts::apply_decay(confirmed, resolved, boards::factor_of(on));
     let young = passes::prune_confirmed(recent, kept, h);
     State {
         last: Last::At(h),
@@ -49,19 +51,28 @@ fn advance_heights(
     recent: &mut [u8],
     low: Height,
     n: u32,
+    on: Horizon,
 ) -> State
-    requires { ⌜ Ready state (lent (now confirmed) (now resolved) (now pending) (now recent)) ⌝ }
+    requires { ⌜ Ready (board-of on) state (lent (now confirmed) (now resolved) (now pending) (now recent)) ⌝ }
     requires { ⌜ low .0 + n < 2 ^ 32 ⌝ }
     ensures { λ r. ⌜
         outcome done r (lent (now (confirmed .exit)) (now (resolved .exit)) (now (pending .exit)) (now (recent .exit)))
-        ≡ accepted base (advance-heights base (low .0) n (view base state (lent (now (confirmed .entry)) (now (resolved .entry)) (now (pending .entry)) (now (recent .entry))))) (lent (now (confirmed .entry)) (now (resolved .entry)) (now (pending .entry)) (now (recent .entry))) ⌝ }
+        ≡ accepted (board-of on) (advance-heights (board-of on) (low .0) n (view (board-of on) state (lent (now (confirmed .entry)) (now (resolved .entry)) (now (pending .entry)) (now (recent .entry))))) (lent (now (confirmed .entry)) (now (resolved .entry)) (now (pending .entry)) (now (recent .entry))) ⌝ }
 {
     let from = low.0;
     let mut s = state;
     let mut i: u32 = 0;
     while i < n {
         i += 1;
-        s = advance_height(s, confirmed, resolved, pending, recent, Height(from + i));
+        s = advance_height(
+            s,
+            confirmed,
+            resolved,
+            pending,
+            recent,
+            Height(from + i),
+            on,
+        );
     }
     s
 }
@@ -74,11 +85,12 @@ pub fn skip_heights(
     pending: &mut [u8],
     recent: &mut [u8],
     h: Height,
+    on: Horizon,
 ) -> State
-    requires { ⌜ Ready state (lent (now confirmed) (now resolved) (now pending) (now recent)) ⌝ }
+    requires { ⌜ Ready (board-of on) state (lent (now confirmed) (now resolved) (now pending) (now recent)) ⌝ }
     ensures { λ r. ⌜
         outcome done r (lent (now (confirmed .exit)) (now (resolved .exit)) (now (pending .exit)) (now (recent .exit)))
-        ≡ accepted base (skip-heights base (state .last) (h .0) (view base state (lent (now (confirmed .entry)) (now (resolved .entry)) (now (pending .entry)) (now (recent .entry))))) (lent (now (confirmed .entry)) (now (resolved .entry)) (now (pending .entry)) (now (recent .entry))) ⌝ }
+        ≡ accepted (board-of on) (skip-heights (board-of on) (state .last) (h .0) (view (board-of on) state (lent (now (confirmed .entry)) (now (resolved .entry)) (now (pending .entry)) (now (recent .entry))))) (lent (now (confirmed .entry)) (now (resolved .entry)) (now (pending .entry)) (now (recent .entry))) ⌝ }
 {
     let last = state.last;
     let Last::At(low) = last else {
@@ -97,5 +109,6 @@ pub fn skip_heights(
         recent,
         low,
         to - from - 1,
+        on,
     )
 }

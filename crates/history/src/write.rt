@@ -3,6 +3,7 @@ use codec::buckets::put_buckets;
 use codec::numbers::put_records;
 use file::header_len;
 use file::put_header;
+use kinds::Horizon;
 use kinds::Last;
 use kinds::State;
 use kinds::WriteAnswer;
@@ -97,7 +98,7 @@ pub fn to_history_bytes(
         outcome (write-answer (r .answer)) (r .state) (output (r .len) (now (out .exit)))
         ≡ write-call version-1 base s (lent (now (confirmed .entry)) (now (resolved .entry)) (now (pending .entry)) (now (recent .entry))) (now (out .entry)) ⌝ }
 {
-    if !judge_memory(s, confirmed, resolved, pending, recent) {
+    if !judge_memory(s, confirmed, resolved, pending, recent, Horizon::Base) {
         return Written {
             answer: WriteAnswer::Damaged,
             state: s,

@@ -3,9 +3,10 @@ mod clear;
 
 pub use clear::clear_counts;
 pub use clear::clear_table;
+use kinds::Horizon;
 use kinds::State;
 ghost use mathlib.Core.Path.{_≡_};
-ghost use Rattle.rules.specs.Board.{base};
+ghost use Rattle.rules.specs.Board.{board-of};
 ghost use Rattle.rules.specs.Memory.{lent, sound};
 
 // Whether all of it is sound.
@@ -15,8 +16,9 @@ pub fn judge_memory(
     resolved: &[f64],
     pending: &[u8],
     recent: &[u8],
+    on: Horizon,
 ) -> bool
-    ensures { λ r. ⌜ r ≡ sound base state (lent (now (confirmed .entry)) (now (resolved .entry)) (now (pending .entry)) (now (recent .entry))) ⌝ }
+    ensures { λ r. ⌜ r ≡ sound (board-of on) state (lent (now (confirmed .entry)) (now (resolved .entry)) (now (pending .entry)) (now (recent .entry))) ⌝ }
 {
     let used = state.pending;
     let kept = state.recent;
@@ -26,7 +28,7 @@ pub fn judge_memory(
     if !counts::sound_counts(resolved) {
         return false;
     }
-    if !passes::judge_pending(pending, used) {
+    if !passes::judge_pending(pending, used, on) {
         return false;
     }
     passes::judge_confirmed(recent, kept)

@@ -12,11 +12,11 @@ use Rattle.table.specs.Fields.{field, with-field}
 use Rattle.table.proofs.Fields.{length-with-field}
 use Rattle.passes.specs.Fields.{reach, raised}
 
-pub length-raised : (width h : ℕ) (r : List ℕ) → length r ≡ 44 → length (raised width h r) ≡ 44
+pub length-raised : (size width h : ℕ) (r : List ℕ) → length r ≡ size → length (raised width h r) ≡ size
 unfolding raised
-length-raised width h r e = go (ltb (field 40 r) (reach width h r))
+length-raised size width h r e = go (ltb (field 40 r) (reach width h r))
   where
-    go : (t : Bool) → length (cond t (with-field 40 (reach width h r) r) r) ≡ 44
+    go : (t : Bool) → length (cond t (with-field 40 (reach width h r) r) r) ≡ size
     go true = length-with-field 40 (reach width h r) r ∙ e
     go false = e
 

@@ -3,7 +3,7 @@
 use mathlib.Core.Path.{_≡_, refl, ap, _∙_}
 use mathlib.Core.Bool.{Bool, true, false, cond}
 use mathlib.Core.List.{List, [], _∷_, map}
-use Prim.Native.Nat.{ℕ, _-_, _/_, _^_, min, max, _<_}
+use Prim.Native.Nat.{ℕ, _-_, _/_, _^_, min, max, _≤_, _<_}
 use native.Mathlib.Omega.{arith}
 use lib.Dec.{leb, ltb, lit<}
 use lib.ListN.{length}
@@ -27,8 +27,8 @@ made-same p q r s = cc
 small : (n : ℕ) → min 25 n < 256 ^ 4
 small n = let h : 25 < 256 ^ 4 = lit< tt in omega arith
 
-module _ (k : Board) (h : ℕ) where
-  pub raised-moved : (b : List ℕ) → length b ≡ 44 → pending-of (raised (k .width) h b) ≡ moved k h (pending-of b)
+module _ (k : Board) (h size : ℕ) (least : 44 ≤ size) where
+  pub raised-moved : (b : List ℕ) → length b ≡ size → pending-of (raised (k .width) h b) ≡ moved k h (pending-of b)
   unfolding pending-of raised
   raised-moved b l = go (ltb (field 40 b) o) refl
     where
@@ -46,12 +46,12 @@ module _ (k : Board) (h : ℕ) where
       go false e = made-same refl refl refl (omega (arith, ltb-false (field 40 b) o e))
 
   -- the pass that raises resolved-through, and then drops what is resolved
-  all-raised : (bs : List (List ℕ)) → Sized 44 bs → map pending-of (map (raised (k .width) h) bs) ≡ map (moved k h) (map pending-of bs)
+  all-raised : (bs : List (List ℕ)) → Sized size bs → map pending-of (map (raised (k .width) h) bs) ≡ map (moved k h) (map pending-of bs)
   unfolding Sized
   all-raised [] z = refl
   all-raised (b ∷ bs) z = rw (raised-moved b (z .0)) (ap (λ (l : List Pending). moved k h (pending-of b) ∷ l) (all-raised bs (z .1)))
 
-  pub pending-expired : (bs : List (List ℕ)) → Sized 44 bs
+  pub pending-expired : (bs : List (List ℕ)) → Sized size bs
       → map pending-of (keep (λ b. ltb (pending-of b .through) 25) (map (raised (k .width) h) bs)) ≡ keep (λ r. ltb (r .through) 25) (map (moved k h) (map pending-of bs))
   pending-expired bs z = map-keep pending-of (λ r. ltb (r .through) 25) (map (raised (k .width) h) bs) ∙ ap (keep (λ r. ltb (r .through) 25)) (all-raised bs z)
 

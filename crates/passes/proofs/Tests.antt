@@ -1,8 +1,8 @@
 -- The bounds on fields say what the rules say of records.
 -- Assumes nothing.
-use mathlib.Core.Path.{_≡_, refl, sym, ap, _∙_}
+use mathlib.Core.Path.{_≡_, refl, sym, ap, ap₂, _∙_}
 use mathlib.Core.Bool.{Bool, true, false, _&&_}
-use mathlib.Core.List.{List}
+use mathlib.Core.List.{List, map}
 use Prim.Native.Nat.{ℕ, _-_}
 use native.Mathlib.Omega.{arith}
 use lib.Dec.{leb, ltb}
@@ -14,7 +14,9 @@ use Rattle.seqs.proofs.Lists.{every-map, every-both}
 use Rattle.table.specs.Fields.{field}
 use Rattle.passes.specs.Fields.{passing, in-bound}
 use Rattle.passes.specs.declared.Bound.the-variants.{AtMost, AtLeast}
-use Rattle.rules.specs.Board.{pending-of, confirmed-of, in-range, base}
+use Rattle.rules.specs.Board.{Pending, board-of, pending-of, confirmed-of, in-range}
+use Rattle.rules.proofs.Boards.{read-is}
+use Rattle.kinds.specs.declared.Horizon.{Horizon}
 
 under : (v : ℕ) → leb v 24 ≡ ltb v 25
 under v = go (leb v 24) refl
@@ -41,10 +43,11 @@ unfolding in-bound confirmed-of
 height-recent h m e b = ap (λ (n : ℕ). leb n (field 32 b)) e ∙ recent h (field 32 b)
 
 -- bucket not above 141, resolved-through not above 25
-pub fields-sound : (used : ℕ) (xs : List ℕ)
-    → every in-range (pending-records base used xs)
-    ≡ every (passing 32 (AtMost 141)) (records 44 used xs) && every (passing 40 (AtMost 25)) (records 44 used xs)
+pub fields-sound : (on : Horizon) (size used : ℕ) (xs : List ℕ) → size ≡ board-of on .table .size
+    → every in-range (pending-records (board-of on) used xs)
+    ≡ every (passing 32 (AtMost 141)) (records size used xs) && every (passing 40 (AtMost 25)) (records size used xs)
 unfolding in-bound pending-of pending-records in-range
-fields-sound used xs =
-    every-map pending-of in-range (records 44 used xs)
-    ∙ every-both (passing 32 (AtMost 141)) (passing 40 (AtMost 25)) (records 44 used xs)
+fields-sound on size used xs e =
+    ap₂ (λ (f : List ℕ → Pending) (n : ℕ). every in-range (map f (records n used xs))) (read-is on) (sym e)
+    ∙ every-map pending-of in-range (records size used xs)
+    ∙ every-both (passing 32 (AtMost 141)) (passing 40 (AtMost 25)) (records size used xs)

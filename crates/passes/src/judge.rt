@@ -1,13 +1,14 @@
 // Whether a table is sound.
 use crate::Bound;
 use crate::pass;
+use kinds::Horizon;
 ghost use mathlib.Core.Path.{_≡_};
 ghost use Prim.Native.Nat.{_*_, _≤_};
 ghost use lib.ListN.{length};
 ghost use lib.Seq.{slice};
 ghost use Rattle.rules.specs.Records.{all-zero, sound-table};
 ghost use Rattle.rules.specs.Memory.{sound-pending, sound-confirmed};
-ghost use Rattle.rules.specs.Board.{base};
+ghost use Rattle.rules.specs.Board.{board-of};
 
 // Whether the bytes from `from` to `to` are all zero.
 fn zero_between(table: &[u8], from: usize, to: usize) -> bool
@@ -40,13 +41,14 @@ pub(crate) fn judge(table: &[u8], size: usize, most: usize, used: usize) -> bool
     }
 }
 
-// Whether a pending table of 44-byte records is sound.
-pub fn judge_pending(table: &[u8], used: usize) -> bool
-    ensures { λ r. ⌜ r ≡ sound-pending base used (now (table .entry)) ⌝ }
+// Whether a pending table is sound.
+pub fn judge_pending(table: &[u8], used: usize, on: Horizon) -> bool
+    ensures { λ r. ⌜ r ≡ sound-pending (board-of on) used (now (table .entry)) ⌝ }
 {
-    if judge(table, 44, 10000, used) {
-        if pass::all_pass(table, 44, used, 32, Bound::AtMost(141)) {
-            return pass::all_pass(table, 44, used, 40, Bound::AtMost(25));
+    let size = boards::record_size(on);
+    if judge(table, size, 10000, used) {
+        if pass::all_pass(table, size, used, 32, Bound::AtMost(141)) {
+            return pass::all_pass(table, size, used, 40, Bound::AtMost(25));
         }
     }
     false

@@ -74,12 +74,12 @@ fn keep_passing(table: &mut [u8], size: usize, used: usize, off: usize, b: Bound
 }
 
 // Pending records with resolved-through 25 go. The answer is how many stay.
-pub fn drop_resolved(table: &mut [u8], used: usize) -> usize
-    requires { ⌜ used * 44 ≤ length (now table) ⌝ }
-    ensures { λ r. ⌜ r ≡ length (keep (λ b. ltb (pending-of b .through) 25) (records 44 used (now (table .entry)))) ⌝ }
-    ensures { λ _. ⌜ now (table .exit) ≡ laid 44 used (keep (λ b. ltb (pending-of b .through) 25) (records 44 used (now (table .entry)))) (now (table .entry)) ⌝ }
+pub fn drop_resolved(table: &mut [u8], size: usize, used: usize) -> usize
+    requires { ⌜ (44 ≤ size) × (used * size ≤ length (now table)) ⌝ }
+    ensures { λ r. ⌜ r ≡ length (keep (λ b. ltb (pending-of b .through) 25) (records size used (now (table .entry)))) ⌝ }
+    ensures { λ _. ⌜ now (table .exit) ≡ laid size used (keep (λ b. ltb (pending-of b .through) 25) (records size used (now (table .entry)))) (now (table .entry)) ⌝ }
 {
-    keep_passing(table, 44, used, 40, Bound::AtMost(24))
+    keep_passing(table, size, used, 40, Bound::AtMost(24))
 }
 
 // Confirmed records with h minus height above 25 go; heights above h stay. The answer is how many stay.
@@ -108,26 +108,27 @@ pub fn outwaited(h: Height, entry: Height, width: Blocks) -> u32
 }
 
 // Moves resolved-through of pending record number `i` up to what the record has outwaited at height h.
-fn raise_one(table: &mut [u8], used: usize, i: usize, h: Height, width: Blocks)
-    requires { ⌜ (0 < width .0) × ((i < used) × (used * 44 ≤ length (now table))) ⌝ }
-    ensures { λ _. ⌜ now (table .exit) ≡ laid 44 used (set (records 44 used (now (table .entry))) i (raised (width .0) (h .0) (getD (records 44 used (now (table .entry))) i []))) (now (table .entry)) ⌝ }
+fn raise_one(table: &mut [u8], size: usize, used: usize, i: usize, h: Height, width: Blocks)
+    requires { ⌜ (0 < width .0) × ((44 ≤ size) × ((i < used) × (used * size ≤ length (now table)))) ⌝ }
+    ensures { λ _. ⌜ now (table .exit) ≡ laid size used (set (records size used (now (table .entry))) i (raised (width .0) (h .0) (getD (records size used (now (table .entry))) i []))) (now (table .entry)) ⌝ }
 {
-    let entry = words::u32_le(table, i * 44 + 36);
-    let through = words::u32_le(table, i * 44 + 40);
+    let at = i * size;
+    let entry = words::u32_le(table, at + 36);
+    let through = words::u32_le(table, at + 40);
     let reach = outwaited(h, Height(entry), width);
     if through < reach {
-        table::put_field(table, 44, used, i, 40, reach);
+        table::put_field(table, size, used, i, 40, reach);
     }
 }
 
 // The same for all.
-pub fn raise_through(table: &mut [u8], used: usize, h: Height, width: Blocks)
-    requires { ⌜ (0 < width .0) × (used * 44 ≤ length (now table)) ⌝ }
-    ensures { λ _. ⌜ now (table .exit) ≡ laid 44 used (map (raised (width .0) (h .0)) (records 44 used (now (table .entry)))) (now (table .entry)) ⌝ }
+pub fn raise_through(table: &mut [u8], size: usize, used: usize, h: Height, width: Blocks)
+    requires { ⌜ (0 < width .0) × ((44 ≤ size) × (used * size ≤ length (now table))) ⌝ }
+    ensures { λ _. ⌜ now (table .exit) ≡ laid size used (map (raised (width .0) (h .0)) (records size used (now (table .entry)))) (now (table .entry)) ⌝ }
 {
     let mut i = 0;
     while i < used {
-        raise_one(table, used, i, h, width);
+        raise_one(table, size, used, i, h, width);
         i += 1;
     }
 }

@@ -7,19 +7,18 @@ use native.Mathlib.Omega.{arith}
 use lib.ListN.{length, take, length-take}
 use lib.Ieee.{Float}
 use Rattle.kinds.specs.declared.State.{State}
-use Rattle.rules.specs.Board.{base, pending-size, confirmed-size, pending-most, confirmed-most, pending-bytes, confirmed-bytes}
+use Rattle.rules.specs.Board.{Board, Lawful, confirmed-size, pending-most, confirmed-most, confirmed-bytes}
 use Rattle.rules.specs.Counts.{places-of-counts}
 use Rattle.rules.specs.Records.{sound-table, laid}
 use Rattle.rules.specs.Memory.{Lent, pending-capacity, confirmed-capacity, pending-records, confirmed-records, lay-pending, lay-confirmed, view, state-of, lay}
-use Rattle.rules.proofs.Boards.{base-lawful}
-use Rattle.rules.proofs.Memory.{pending-kept, confirmed-kept, state-of-view}
+use Rattle.rules.proofs.Memory.{confirmed-kept, state-of-view}
 use Rattle.rules.proofs.Sound.{well-fits, laid-sound, pending-id, confirmed-id}
 use Rattle.ready.specs.Ready.{Ready}
 
 long : (n : ℕ) (xs : List Float) → length (take n xs) ≡ n → n ≤ length xs
 long n xs e = omega (arith, length-take n xs)
 
-module _ (s : State) (l : Lent) (r : Ready s l) where
+module _ (k : Board) (law : Lawful k) (s : State) (l : Lent) (r : Ready k s l) where
   pub confirmed-places : places-of-counts ≤ length (l .confirmed)
   unfolding view
   confirmed-places = long places-of-counts (l .confirmed) (r .well .confirmed)
@@ -28,20 +27,20 @@ module _ (s : State) (l : Lent) (r : Ready s l) where
   unfolding view
   resolved-places = long places-of-counts (l .resolved) (r .well .resolved)
 
-  pub used-pending : length (view base s l .pending) ≡ s .pending
+  pub used-pending : length (view k s l .pending) ≡ s .pending
   unfolding state-of
-  used-pending = ap (λ (t : State). t .pending) (state-of-view base s l)
+  used-pending = ap (λ (t : State). t .pending) (state-of-view k s l)
 
-  pub used-recent : length (view base s l .recent) ≡ s .recent
+  pub used-recent : length (view k s l .recent) ≡ s .recent
   unfolding state-of
-  used-recent = ap (λ (t : State). t .recent) (state-of-view base s l)
+  used-recent = ap (λ (t : State). t .recent) (state-of-view k s l)
 
   -- both tables are sound
-  pub pending-sound : sound-table pending-size pending-most (s .pending) (l .pending) ≡ true
+  pub pending-sound : sound-table (k .table .size) pending-most (s .pending) (l .pending) ≡ true
   unfolding lay lay-pending
   pending-sound =
-      ap₂ (λ (n : ℕ) (xs : List ℕ). sound-table pending-size pending-most n xs) (sym used-pending) (sym (ap (λ (m : Lent). m .pending) (r .own)))
-      ∙ laid-sound pending-kept (λ q. q .id) (pending-id base base-lawful) pending-most (l .pending) (well-fits (r .well) .pending) (r .well .pending-up) (r .room .pending)
+      ap₂ (λ (n : ℕ) (xs : List ℕ). sound-table (k .table .size) pending-most n xs) (sym used-pending) (sym (ap (λ (m : Lent). m .pending) (r .own)))
+      ∙ laid-sound (law .kept) (λ q. q .id) (pending-id k law) pending-most (l .pending) (well-fits (r .well) .pending) (r .well .pending-up) (r .room .pending)
 
   pub recent-sound : sound-table confirmed-size confirmed-most (s .recent) (l .recent) ≡ true
   unfolding lay lay-confirmed

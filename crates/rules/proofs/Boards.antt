@@ -1,13 +1,16 @@
--- The base board is lawful: its layout keeps every record that fits, and reads ids of 32 bytes and numbers of four. Assumes nothing.
-use mathlib.Core.Path.{_≡_, refl}
-use mathlib.Core.List.{List}
-use Prim.Native.Nat.{ℕ}
+-- Both boards are lawful: their layout keeps every record that fits, and reads ids of 32 bytes and numbers of four. Then what the code may use of
+-- the board that a horizon names, whichever it is. Assumes nothing.
+use mathlib.Core.Path.{_≡_, refl, sym, ap₂}
+use mathlib.Core.List.{List, []}
+use Prim.Native.Nat.{ℕ, _≤_}
 use native.Mathlib.Omega.{arith}
 use lib.Dec.{T, lit<}
-use lib.ListN.{length}
+use lib.ListN.{length, getD}
 use lib.Seq.{length-take-le}
 use lib.Pow.{areBytes}
-use Rattle.rules.specs.Board.{base, pending-of, PendingFits, Lawful}
+use Rattle.kinds.specs.declared.Horizon.{Horizon}
+use Rattle.rules.specs.Board.{Pending, Board, base, wide, board-of, pending-bytes, pending-of, PendingFits, Lawful}
+use Rattle.rules.specs.Records.{records}
 use Rattle.rules.proofs.Memory.{pending-kept}
 use Rattle.rules.proofs.Sound.{number-lt}
 
@@ -20,3 +23,36 @@ base-lawful =
       fits = λ b n t. record { id = length-take-le 32 b (omega arith); bucket = number-lt b 32 (omega arith) t; entry = number-lt b 36 (omega arith) t; through = number-lt b 40 (omega arith) t };
       named = λ b. refl;
     }
+
+pub wide-lawful : Lawful wide
+wide-lawful = record { wide = lit< tt; kept = base-lawful .kept; fits = base-lawful .fits; named = base-lawful .named }
+
+-- ---- the board that a horizon names
+
+pub board-lawful : (on : Horizon) → Lawful (board-of on)
+board-lawful Horizon.Base = base-lawful
+board-lawful Horizon.Wide = wide-lawful
+
+-- its records have room for an id and three numbers
+pub size-least : (on : Horizon) → 44 ≤ board-of on .table .size
+size-least Horizon.Base = omega arith
+size-least Horizon.Wide = omega arith
+
+-- and are read and written so
+pub read-is : (on : Horizon) → board-of on .table .read ≡ pending-of
+read-is Horizon.Base = refl
+read-is Horizon.Wide = refl
+
+pub write-is : (on : Horizon) → board-of on .table .write ≡ pending-bytes
+write-is Horizon.Base = refl
+write-is Horizon.Wide = refl
+
+-- record number i, read from the bytes of records of n bytes
+pub read-at : (on : Horizon) (n used i : ℕ) (xs : List ℕ) → n ≡ board-of on .table .size
+    → pending-of (getD (records n used xs) i []) ≡ board-of on .table .read (getD (records (board-of on .table .size) used xs) i [])
+read-at on n used i xs e = ap₂ (λ (f : List ℕ → Pending) (m : ℕ). f (getD (records m used xs) i [])) (sym (read-is on)) e
+
+-- Today both boards have records of 44 bytes.
+pub size-is : (on : Horizon) → board-of on .table .size ≡ 44
+size-is Horizon.Base = refl
+size-is Horizon.Wide = refl

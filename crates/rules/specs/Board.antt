@@ -7,6 +7,7 @@ use lib.Dec.{T, leb}
 use lib.ListN.{length, take, drop}
 use lib.Pow.{areBytes}
 use lib.Ieee.{Float}
+use Rattle.kinds.specs.declared.Horizon.{Horizon}
 use Rattle.rules.specs.Ids.{Id}
 use Rattle.rules.specs.Ladder.{last-bucket}
 use Rattle.rules.specs.Counts.{columns, decimal}
@@ -87,6 +88,15 @@ pub record Board : Type 0 where
 -- Column c is target c; every count is multiplied by 0.998; pending records of 44 bytes.
 abbrev pub base : Board
 base = record { width = 1; decay = decimal 998 1000; table = plain }
+
+-- Column c is for waits up to 6 times c; every count is multiplied by 0.9995; pending records of 44 bytes.
+abbrev pub wide : Board
+wide = record { width = 6; decay = decimal 9995 10000; table = plain }
+
+-- the board that a horizon names
+abbrev pub board-of : Horizon → Board
+board-of Horizon.Base = base
+board-of Horizon.Wide = wide
 
 -- ---- what the promises ask of a board
 

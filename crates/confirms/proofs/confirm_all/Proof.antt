@@ -4,21 +4,23 @@ use Prim.Native.Nat.{_-_}
 use denote.Ref.{now}
 use native.Mathlib.Omega.{arith}
 use lib.ListN.{length}
+use Rattle.rules.specs.Board.{board-of}
+use Rattle.rules.proofs.Boards.{board-lawful}
 use Rattle.rules.specs.Memory.{lent}
 use Rattle.confirms.proofs.Listing.{Going, going-none, going-more, going-all, room-for-one, listed-length}
 use Rattle.confirms.proofs.confirm_all.Statement.{statement}
 use Rattle.confirms.proofs.confirm_all.Tie as tie
 
 abbrev Inv-loop : tie.InvT-loop
-Inv-loop confirmed₀ resolved₀ pending₀ recent₀ ids h s₀ at₀ confirmed resolved pending recent s at =
-    Going (h .0) ids s₀ (lent confirmed₀ resolved₀ pending₀ recent₀) at s (lent confirmed resolved pending recent)
+Inv-loop confirmed₀ resolved₀ pending₀ recent₀ ids h on s₀ at₀ confirmed resolved pending recent s at =
+    Going (board-of on) (h .0) ids s₀ (lent confirmed₀ resolved₀ pending₀ recent₀) at s (lent confirmed resolved pending recent)
 
 abbrev μ-loop : tie.MeasureT-loop
-μ-loop confirmed₀ resolved₀ pending₀ recent₀ ids h s₀ at₀ confirmed resolved pending recent s at =
+μ-loop confirmed₀ resolved₀ pending₀ recent₀ ids h on s₀ at₀ confirmed resolved pending recent s at =
     length ids - at
 
 loop-holds : tie.Need-loop-holds Inv-loop μ-loop
-loop-holds c = let s = c .before .before .before .before .before in going-none _ _ _ _ (s .pre .0) (s .pre .1)
+loop-holds c = let s = c .before .before .before .before .before in going-none (board-of (s .args .on)) (board-lawful (s .args .on)) _ _ _ _ (s .pre .0) (s .pre .1)
 
 sub-loop : tie.Need-sub-loop Inv-loop μ-loop
 sub-loop c = omega arith
@@ -39,8 +41,8 @@ confirm-requires : tie.Need-confirm-requires Inv-loop μ-loop
 confirm-requires c κs =
     let n = c .before .before .before .before .before in
     let g = n .before .loop in
-    let ids = now (n .before .before .before .before .before .before .before .args .ids) in
-    (g .inv .ready, (room-for-one _ _ _ _ (g .at) _ _ (g .inv) (n .loop-test .taken), listed-length ids (g .at) (n .loop-test .taken)))
+    let a = n .before .before .before .before .before .before .before .args in
+    (g .inv .ready, (room-for-one (board-of (a .on)) (board-lawful (a .on)) _ _ _ _ (g .at) _ _ (g .inv) (n .loop-test .taken), listed-length (now (a .ids)) (g .at) (n .loop-test .taken)))
 
 loop-less : tie.Need-loop-less Inv-loop μ-loop
 loop-less c = omega arith
@@ -50,7 +52,8 @@ loop-again c =
     let k = c .before .before .before .before .before .before .before .before .confirm in
     let n = c .before .before .before .before .before .before .before .before .before .before .before .before .before .before in
     let g = n .before .loop in
-    going-more _ _ _ _ (g .at) _ _ (g .inv) _ _ (n .loop-test .taken) (omega (arith, n .before .before .before .before .before .before .before .good))
+    let on = n .before .before .before .before .before .before .before .args .on in
+    going-more (board-of on) (board-lawful on) _ _ _ _ (g .at) _ _ (g .inv) _ _ (n .loop-test .taken) (omega (arith, n .before .before .before .before .before .before .before .good))
     (record {
       confirmed = k .kept .1 .0 ∙ g .inv .long .confirmed;
       resolved = k .kept .1 .1 .0 ∙ g .inv .long .resolved;
@@ -72,7 +75,7 @@ same-length-4 : tie.Need-same-length-4 Inv-loop μ-loop
 same-length-4 c = c .before .loop .inv .long .recent
 
 returns : tie.Need-returns Inv-loop μ-loop
-returns c = going-all _ _ _ _ (c .before .loop .at) _ _ (c .before .loop .inv) (c .loop-test .left)
+returns c = let on = c .before .before .before .before .before .before .before .args .on in going-all (board-of on) (board-lawful on) _ _ _ _ (c .before .loop .at) _ _ (c .before .loop .inv) (c .loop-test .left)
 
 pub confirm-all-spec : {M : Type 1} → statement M
 confirm-all-spec =

@@ -5,7 +5,7 @@ use Prim.Native.Nat.{_-_}
 use denote.Ref.{now}
 use native.Mathlib.Omega.{arith}
 use lib.ListN.{length}
-use Rattle.rules.specs.Board.{base}
+use Rattle.rules.specs.Board.{board-of}
 use Rattle.rules.specs.Estimator.{is-pending}
 use Rattle.rules.specs.Memory.{pending-records}
 use Rattle.confirms.proofs.Listing.{Counting, counting-none, counting-more, counting-all, listed-length}
@@ -13,10 +13,10 @@ use Rattle.confirms.proofs.pending_listings.Statement.{statement}
 use Rattle.confirms.proofs.pending_listings.Tie as tie
 
 abbrev Inv-loop : tie.InvT-loop
-Inv-loop pending used ids n₀ at₀ n at = Counting (λ i. is-pending i (pending-records base used pending)) ids n at
+Inv-loop pending used ids on n₀ at₀ n at = Counting (λ i. is-pending i (pending-records (board-of on) used pending)) ids n at
 
 abbrev μ-loop : tie.MeasureT-loop
-μ-loop pending used ids n₀ at₀ n at = length ids - at
+μ-loop pending used ids on n₀ at₀ n at = length ids - at
 
 loop-holds : tie.Need-loop-holds Inv-loop μ-loop
 loop-holds c = counting-none _ _

@@ -3,6 +3,8 @@
 use borrow.Author.Needs.{needs}
 use native.Mathlib.Omega.{arith}
 use denote.Ref.{now}
+use Rattle.rules.specs.Board.{board-of}
+use Rattle.rules.proofs.Boards.{board-lawful}
 use Rattle.rules.specs.Memory.{Lent, lent}
 use Rattle.heights.proofs.Skip.{no-last, none-between, between}
 use Rattle.heights.proofs.skip_heights.Statement.{statement}
@@ -21,13 +23,13 @@ enum-told c = search needs
 returns : tie.Need-returns
 returns c =
     let s = c .before .before .before .before .before .before in
-    no-last (s .args .state) (given s) (s .args .h .0) (s .pre) (c .enum-told .given .1)
+    no-last (board-of (s .args .on)) (board-lawful (s .args .on)) (s .args .state) (given s) (s .args .h .0) (s .pre) (c .enum-told .given .1)
 
 returns-2 : tie.Need-returns-2
 returns-2 c =
     let last = c .before .before .last in
     let s = c .before .before .before .before .before .before .before .before in
-    none-between (s .args .state) (given s) (s .args .h .0) (s .pre) (last .given .1) (c .if1 .taken)
+    none-between (board-of (s .args .on)) (board-lawful (s .args .on)) (s .args .state) (given s) (s .args .h .0) (s .pre) (last .given .1) (c .if1 .taken)
 
 sub-advance-heights : tie.Need-sub-advance-heights
 sub-advance-heights c = search needs
@@ -55,7 +57,7 @@ returns-3 c =
     let u = c .before .before .before .before .before .before .before .before in
     let last = u .before .before .before .before .before .before .before .last in
     let s = u .before .before .before .before .before .before .before .before .before .before .before .before .before in
-    between (s .args .state) (given s) (s .args .h .0) _ (last .given .1) (omega arith) (u .advance-heights .ensures)
+    between (board-of (s .args .on)) (board-lawful (s .args .on)) (s .args .state) (given s) (s .args .h .0) _ (last .given .1) (omega arith) (u .advance-heights .ensures)
 
 pub skip-heights-spec : {M : Type 1} → statement M
 skip-heights-spec =

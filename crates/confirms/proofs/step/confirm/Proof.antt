@@ -1,5 +1,7 @@
 -- `confirms::step::confirm` meets its contract. Assumes nothing.
 use mathlib.Core.Path.{sym, _∙_}
+use Rattle.rules.specs.Board.{board-of}
+use Rattle.rules.proofs.Boards.{board-lawful}
 use Rattle.ready.proofs.Facts.{pending-sound, recent-sound}
 use Rattle.confirms.proofs.Stepped.{uncounted, not-uncounted}
 use borrow.Author.Needs.{needs}
@@ -7,10 +9,10 @@ use Rattle.confirms.proofs.step.confirm.Statement.{statement}
 use Rattle.confirms.proofs.step.confirm.Tie as tie
 
 holds-requires : tie.Need-holds-requires
-holds-requires c κs = let s = c .before .before .before .before .before .before in (recent-sound _ _ (s .pre .0), s .pre .1 .1)
+holds-requires c κs = let s = c .before .before .before .before .before .before in (recent-sound (board-of (s .args .on)) (board-lawful (s .args .on)) _ _ (s .pre .0), s .pre .1 .1)
 
 forget-requires : tie.Need-forget-requires
-forget-requires c κs = let s = c .before .before .before .before .before .before .before .before .before in (pending-sound _ _ (s .pre .0), s .pre .1 .1)
+forget-requires c κs = let s = c .before .before .before .before .before .before .before .before .before in (pending-sound (board-of (s .args .on)) (board-lawful (s .args .on)) _ _ (s .pre .0), s .pre .1 .1)
 
 same-length : tie.Need-same-length
 same-length c = search needs
@@ -22,7 +24,7 @@ returns : tie.Need-returns
 returns c =
     let s = c .before .before .before .before .before .before .before .before .before .before .before .before in
     let k = c .before .before .forget .ensures in
-    uncounted _ _ (s .pre .0) _ _ (sym (c .before .before .before .before .before .holds .ensures) ∙ c .before .before .before .before .if1 .taken) _ _ (k .0) (k .1)
+    uncounted (board-of (s .args .on)) (board-lawful (s .args .on)) _ _ (s .pre .0) _ _ (sym (c .before .before .before .before .before .holds .ensures) ∙ c .before .before .before .before .if1 .taken) _ _ (k .0) (k .1)
 
 record-confirmation-requires : tie.Need-record-confirmation-requires
 record-confirmation-requires c κs = search needs
@@ -42,7 +44,7 @@ same-length-6 c = search needs
 returns-2 : tie.Need-returns-2
 returns-2 c =
     let s = c .before .before .before .before .before .before .before .before .before .before .before .before .before .before .before .before .before .before .before .before .before in
-    not-uncounted _ _ (s .pre .0) _ _ (sym (c .before .before .before .before .before .before .before .before .before .before .before .before .before .before .holds .ensures) ∙ c .before .before .before .before .before .before .before .before .before .before .before .before .before .if1 .left) (c .before .before .before .before .before .before .before .before .record-confirmation .ensures)
+    not-uncounted (board-of (s .args .on)) (board-lawful (s .args .on)) _ _ (s .pre .0) _ _ (sym (c .before .before .before .before .before .before .before .before .before .before .before .before .before .before .holds .ensures) ∙ c .before .before .before .before .before .before .before .before .before .before .before .before .before .if1 .left) (c .before .before .before .before .before .before .before .before .record-confirmation .ensures)
 
 pub confirm-spec : {M : Type 1} → statement M
 confirm-spec =

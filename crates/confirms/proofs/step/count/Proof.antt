@@ -1,5 +1,5 @@
 -- `confirms::step::count` meets its contract. Assumes nothing.
-use mathlib.Core.Path.{ap, _∙_}
+use mathlib.Core.Path.{ap₂, _∙_}
 use Prim.Native.Nat.{ℕ, _*_}
 use lib.Dec.{leb}
 use Rattle.rules.proofs.Counting.{gain-agree}
@@ -9,6 +9,9 @@ use Rattle.confirms.proofs.step.count.Tie as tie
 
 waited-requires : tie.Need-waited-requires
 waited-requires c κs = search needs
+
+width-of-requires : tie.Need-width-of-requires
+width-of-requires c κs = search needs
 
 first-column-requires : tie.Need-first-column-requires
 first-column-requires c κs = search needs
@@ -28,8 +31,9 @@ same-length-2 c = search needs
 returns : tie.Need-returns
 returns c =
     let n = c .before .before .before .before .before .before .before in
+    let w = n .before .width-of .ensures .0 in
     let k = c .before .before .before .before .count-confirmation in (
-      k .ensures .0 ∙ gain-agree _ _ _ _ (λ i _. n .first-column .ensures i ∙ ap (λ (w : ℕ). leb w (1 * i)) (n .before .waited .ensures)),
+      k .ensures .0 ∙ gain-agree _ _ _ _ (λ i _. n .first-column .ensures i ∙ ap₂ (λ (x d : ℕ). leb x (d * i)) (n .before .before .waited .ensures) w),
       k .ensures .1,
     )
 
@@ -38,6 +42,7 @@ count-spec =
     tie.close
     (tie.spec
     waited-requires
+    width-of-requires
     first-column-requires
     cast-count-confirmation
     count-confirmation-requires

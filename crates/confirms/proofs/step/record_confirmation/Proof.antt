@@ -1,20 +1,23 @@
 -- `confirms::step::record_confirmation` meets its contract. Assumes nothing.
-use mathlib.Core.Path.{_≡_, sym, _∙_}
+use mathlib.Core.Path.{_≡_, ap, _∙_}
+use mathlib.Core.Bool.{true}
 use mathlib.Core.Option.{some}
 use mathlib.Core.List.{[], map}
-use Prim.Native.Nat.{_*_, _≤_, _<_}
+use Prim.Native.Nat.{ℕ, _*_, _≤_, _<_}
 use native.Mathlib.Omega.{arith}
 use denote.Ref.{now}
 use lib.ListN.{length, getD}
-use Rattle.rules.specs.Board.{base, Pending, pending-size, pending-most, pending-of}
-use Rattle.rules.specs.Records.{records, id-of}
+use Rattle.rules.specs.Board.{Pending, board-of, pending-most, pending-of}
+use Rattle.rules.proofs.Boards.{board-lawful, read-at}
+use Rattle.kinds.specs.declared.Horizon.{Horizon}
+use Rattle.rules.specs.Records.{records, id-of, sound-table}
 use Rattle.rules.specs.Estimator.{find}
 use Rattle.rules.specs.Memory.{pending-records}
 use Rattle.ready.proofs.Facts.{confirmed-places, resolved-places, pending-sound, recent-sound}
 use Rattle.table.specs.Search.{find-in}
 use Rattle.table.specs.declared.Found.the-variants.{At}
 use Rattle.table.proofs.Edited.{are-bytes}
-use Rattle.confirms.proofs.Edited.{searchable, in-table, there, found, lost, removed}
+use Rattle.confirms.proofs.Edited.{searchable, told, in-table, there, found, lost, removed}
 use Rattle.confirms.proofs.Stepped.{bucket-fits, room-for-it, unlisted, counted}
 use borrow.Author.Needs.{needs}
 use Rattle.confirms.proofs.step.record_confirmation.Statement.{statement}
@@ -22,38 +25,62 @@ use Rattle.confirms.proofs.step.record_confirmation.Tie as tie
 
 -- a record of the id was found: the function's start, and where the record stands
 abbrev start : tie.After-i → tie.Start
-start n = n .before .before .before .before .before .before .before .before .before
+start n = n .before .before .before .before .before .before .before .before .before .before
 
-at : (n : tie.After-i) → let a = start n .args in find-in (now (a .id)) (map id-of (records pending-size (a .state .pending) (now (a .pending)))) ≡ At (n .i .given .0 .0)
-at n = sym (n .before .before .find .ensures) ∙ n .i .given .1
+abbrev on : tie.After-i → Horizon
+on n = start n .args .on
+
+abbrev size : tie.After-i → ℕ
+size n = n .before .before .before .before .record-size .result
+
+size-told : (n : tie.After-i) → (size n ≡ board-of (on n) .table .size) × (44 ≤ size n)
+size-told n = n .before .before .before .before .record-size .ensures
+
+sound : (n : tie.After-i) → let a = start n .args in sound-table (board-of (a .on) .table .size) pending-most (a .state .pending) (now (a .pending)) ≡ true
+sound n = pending-sound (board-of (on n)) (board-lawful (on n)) _ _ (start n .pre .0)
+
+at : (n : tie.After-i) → let a = start n .args in find-in (now (a .id)) (map id-of (records (board-of (a .on) .table .size) (a .state .pending) (now (a .pending)))) ≡ At (n .i .given .0 .0)
+at n = told _ _ _ _ _ (size-told n .0) (n .before .before .find .ensures) (n .i .given .1)
 
 -- the record, and what reading and removing it asks
 abbrev rec : tie.After-i → Pending
-rec n = let a = start n .args in pending-of (getD (records pending-size (a .state .pending) (now (a .pending))) (n .i .given .0 .0) [])
+rec n = let a = start n .args in board-of (a .on) .table .read (getD (records (board-of (a .on) .table .size) (a .state .pending) (now (a .pending))) (n .i .given .0 .0) [])
 
-record-found : (n : tie.After-i) → let a = start n .args in find (now (a .id)) (pending-records base (a .state .pending) (now (a .pending))) ≡ some (rec n)
-record-found n = found _ _ _ _ (pending-sound _ _ (start n .pre .0)) (at n)
+record-found : (n : tie.After-i) → let a = start n .args in find (now (a .id)) (pending-records (board-of (a .on)) (a .state .pending) (now (a .pending))) ≡ some (rec n)
+record-found n = found (board-of (on n)) (board-lawful (on n)) _ _ _ _ (sound n) (at n)
 
-placed : (n : tie.After-i) → let a = start n .args in (n .i .given .0 .0 < a .state .pending) × (a .state .pending * pending-size ≤ length (now (a .pending)))
-placed n = in-table pending-size pending-most _ _ _ _ (pending-sound _ _ (start n .pre .0)) (at n)
+record-read : (n : tie.After-i) → let a = start n .args in pending-of (getD (records (size n) (a .state .pending) (now (a .pending))) (n .i .given .0 .0) []) ≡ rec n
+record-read n = let a = start n .args in read-at (a .on) (size n) (a .state .pending) (n .i .given .0 .0) (now (a .pending)) (size-told n .0)
+
+placed : (n : tie.After-i) → let a = start n .args in (n .i .given .0 .0 < a .state .pending) × (a .state .pending * size n ≤ length (now (a .pending)))
+placed n = in-table _ _ pending-most _ _ _ _ (size-told n .0) (sound n) (at n)
+
+record-size-requires : tie.Need-record-size-requires
+record-size-requires c κs = search needs
 
 find-requires : tie.Need-find-requires
-find-requires c κs = let s = c .before .before .before .before .before .before in searchable pending-size pending-most _ _ (now (s .args .id)) (omega arith) (pending-sound _ _ (s .pre .0)) (s .pre .1 .1)
+find-requires c κs =
+    let s = c .before .before .before .before .before .before .before in
+    let z = c .before .record-size .ensures in
+    searchable _ _ pending-most _ _ (now (s .args .id)) (z .0) (omega (arith, z .1)) (pending-sound (board-of (s .args .on)) (board-lawful (s .args .on)) _ _ (s .pre .0)) (s .pre .1 .1)
 
 enum-known-i : tie.Need-enum-known-i
 enum-known-i c = search needs
 
 pending-at-requires : tie.Need-pending-at-requires
-pending-at-requires c κs = placed (c .before .before .before .before)
+pending-at-requires c κs = let n = c .before .before .before .before in (size-told n .1, placed n)
 
 count-requires : tie.Need-count-requires
 count-requires c κs =
     let n = c .before .before .before .before .before in
+    let k = board-of (on n) in
+    let law = board-lawful (on n) in
     let r = start n .pre .0 in
-    (omega (arith, c .pending-at .ensures .0, bucket-fits _ _ r 0 _ _ (record-found n)), confirmed-places _ _ r, resolved-places _ _ r)
+    let b = c .pending-at .ensures .0 ∙ ap (λ (q : Pending). q .bucket) (record-read n) in
+    (omega (arith, b, bucket-fits k law _ _ r 0 _ _ (record-found n)), confirmed-places k law _ _ r, resolved-places k law _ _ r)
 
 remove-requires : tie.Need-remove-requires
-remove-requires c κs = let p = placed (c .before .before .before .before .before .before .before .before .before .before .before) in (omega arith, p .1)
+remove-requires c κs = let p = placed (c .before .before .before .before .before .before .before .before .before .before .before) in (omega (arith, p .0), p .1)
 
 sub-left : tie.Need-sub-left
 sub-left c = omega (arith, placed (c .before .before .before .before .before .before .before .before .before .before .before .before .before .before) .0)
@@ -62,7 +89,7 @@ note-height-requires : tie.Need-note-height-requires
 note-height-requires c κs =
     let n = c .before .before .before .before .before .before .before .before .before .before .before .before .before .before .before in
     let s = start n in
-    (recent-sound _ _ (s .pre .0), (room-for-it _ _ _ (there _ _ _ _ (pending-sound _ _ (s .pre .0)) (at n)) (s .pre .1 .0), s .pre .1 .1))
+    (recent-sound (board-of (on n)) (board-lawful (on n)) _ _ (s .pre .0), (room-for-it _ _ _ (there (board-of (on n)) (board-lawful (on n)) _ _ _ _ (sound n) (at n)) (s .pre .1 .0), s .pre .1 .1))
 
 enum-told : tie.Need-enum-told
 enum-told c = search needs
@@ -83,11 +110,13 @@ returns : tie.Need-returns
 returns c =
     let n = c .before .before .before .before .before .before .before .before .before .before .before .before .before .before .before .before .before .before in
     let s = start n in
-    let r = s .pre .0 in
+    let k = board-of (on n) in
+    let law = board-lawful (on n) in
     let e = c .before .before .before .before .before .before .before .before .before .before .before .before .before .pending-at .ensures in
-    let k = c .before .before .before .before .before .before .before .before .before .before .before .before .count .ensures in
-    counted _ _ r _ _ _ (record-found n) _ _ _ _ _ _ _ _ _ (e .0) (e .1 .0) (e .1 .1) (k .0) (k .1)
-    (removed _ _ _ _ (pending-sound _ _ r) _ (are-bytes (c .before .before .before .before .before .before .remove .last .0) (λ i. c .before .before .before .before .slice-known7 .given i .fits)) (at n) (c .before .before .before .before .before .before .remove .ensures))
+    let j = c .before .before .before .before .before .before .before .before .before .before .before .before .count .ensures in
+    let q = record-read n in
+    counted k law _ _ (s .pre .0) _ _ _ (record-found n) _ _ _ _ _ _ _ _ _ (e .0 ∙ ap (λ (p : Pending). p .bucket) q) (e .1 .0 ∙ ap (λ (p : Pending). p .entry) q) (e .1 .1 ∙ ap (λ (p : Pending). p .through) q) (j .0) (j .1)
+    (removed k law _ _ _ _ (sound n) _ _ (size-told n .0) (are-bytes (c .before .before .before .before .before .before .remove .last .0) (λ i. c .before .before .before .before .slice-known7 .given i .fits)) (at n) (c .before .before .before .before .before .before .remove .ensures))
     (c .before .before .note-height .ensures)
 
 same-length-5 : tie.Need-same-length-5
@@ -95,13 +124,16 @@ same-length-5 c = search needs
 
 returns-2 : tie.Need-returns-2
 returns-2 c =
-    let s = c .before .before .before .before .before .before .before .before .before in
-    unlisted _ _ (s .pre .0) _ _ (lost _ _ _ _ (pending-sound _ _ (s .pre .0)) (sym (c .before .before .find .ensures) ∙ c .enum-told .given .1))
+    let s = c .before .before .before .before .before .before .before .before .before .before in
+    let k = board-of (s .args .on) in
+    let law = board-lawful (s .args .on) in
+    unlisted k law _ _ (s .pre .0) _ _ (lost k law _ _ _ _ (pending-sound k law _ _ (s .pre .0)) (told _ _ _ _ _ (c .before .before .before .before .record-size .ensures .0) (c .before .before .find .ensures) (c .enum-told .given .1)))
 
 pub record-confirmation-spec : {M : Type 1} → statement M
 record-confirmation-spec =
     tie.close
     (tie.spec
+    record-size-requires
     find-requires
     enum-known-i
     pending-at-requires

@@ -1,5 +1,5 @@
 -- `confirms::tables::holds` meets its contract. Assumes nothing.
-use mathlib.Core.Path.{sym, _∙_}
+use mathlib.Core.Path.{refl, sym, _∙_}
 use denote.Ref.{now}
 use native.Mathlib.Omega.{arith}
 use Rattle.rules.specs.Board.{confirmed-size, confirmed-most}
@@ -9,7 +9,7 @@ use Rattle.confirms.proofs.tables.holds.Statement.{statement}
 use Rattle.confirms.proofs.tables.holds.Tie as tie
 
 find-requires : tie.Need-find-requires
-find-requires c κs = let s = c .before .before in searchable confirmed-size confirmed-most _ _ (now (s .args .id)) (omega arith) (s .pre .0) (s .pre .1)
+find-requires c κs = let s = c .before .before in searchable confirmed-size confirmed-size confirmed-most _ _ (now (s .args .id)) refl (omega arith) (s .pre .0) (s .pre .1)
 
 enum-known-i : tie.Need-enum-known-i
 enum-known-i c = search needs
@@ -17,7 +17,7 @@ enum-known-i c = search needs
 height-at-requires : tie.Need-height-at-requires
 height-at-requires c κs =
     let s = c .before .before .before .before .before .before in
-    in-table confirmed-size confirmed-most _ _ _ _ (s .pre .0) (sym (c .before .before .before .find .ensures) ∙ c .before .i .given .1)
+    in-table confirmed-size confirmed-size confirmed-most _ _ _ _ refl (s .pre .0) (sym (c .before .before .before .find .ensures) ∙ c .before .i .given .1)
 
 enum-told : tie.Need-enum-told
 enum-told c = search needs

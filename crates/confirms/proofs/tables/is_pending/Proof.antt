@@ -1,15 +1,21 @@
 -- `confirms::tables::is_pending` meets its contract. Assumes nothing.
-use mathlib.Core.Path.{sym, _∙_}
 use denote.Ref.{now}
 use native.Mathlib.Omega.{arith}
-use Rattle.rules.specs.Board.{pending-size, pending-most}
-use Rattle.confirms.proofs.Edited.{searchable, there, missing}
+use Rattle.rules.specs.Board.{board-of, pending-most}
+use Rattle.rules.proofs.Boards.{board-lawful}
+use Rattle.confirms.proofs.Edited.{searchable, told, there, missing}
 use borrow.Author.Needs.{needs}
 use Rattle.confirms.proofs.tables.is_pending.Statement.{statement}
 use Rattle.confirms.proofs.tables.is_pending.Tie as tie
 
+record-size-requires : tie.Need-record-size-requires
+record-size-requires c κs = search needs
+
 find-requires : tie.Need-find-requires
-find-requires c κs = let s = c .before .before in searchable pending-size pending-most _ _ (now (s .args .id)) (omega arith) (s .pre .0) (s .pre .1)
+find-requires c κs =
+    let s = c .before .before .before in
+    let z = c .record-size .ensures in
+    searchable _ _ pending-most _ _ (now (s .args .id)) (z .0) (omega (arith, z .1)) (s .pre .0) (s .pre .1)
 
 enum-told : tie.Need-enum-told
 enum-told c = search needs
@@ -18,10 +24,14 @@ enum-told-2 : tie.Need-enum-told-2
 enum-told-2 c = search needs
 
 returns : tie.Need-returns
-returns c = there _ _ _ _ (c .before .before .before .before .before .pre .0) (sym (c .before .before .find .ensures) ∙ c .enum-told .given .1)
+returns c =
+    let s = c .before .before .before .before .before .before in
+    there (board-of (s .args .on)) (board-lawful (s .args .on)) _ _ _ _ (s .pre .0) (told _ _ _ _ _ (c .before .before .before .record-size .ensures .0) (c .before .before .find .ensures) (c .enum-told .given .1))
 
 returns-2 : tie.Need-returns-2
-returns-2 c = missing _ _ _ _ (c .before .before .before .before .before .pre .0) (sym (c .before .before .find .ensures) ∙ c .enum-told2 .given .1)
+returns-2 c =
+    let s = c .before .before .before .before .before .before in
+    missing (board-of (s .args .on)) (board-lawful (s .args .on)) _ _ _ _ (s .pre .0) (told _ _ _ _ _ (c .before .before .before .record-size .ensures .0) (c .before .before .find .ensures) (c .enum-told2 .given .1))
 
 pub is-pending-spec : {M : Type 1} → statement M
-is-pending-spec = tie.close (tie.spec find-requires enum-told enum-told-2 returns returns-2)
+is-pending-spec = tie.close (tie.spec record-size-requires find-requires enum-told enum-told-2 returns returns-2)

@@ -1,5 +1,5 @@
 -- `confirms::tables::note_height` meets its contract. Assumes nothing.
-use mathlib.Core.Path.{sym, _∙_}
+use mathlib.Core.Path.{refl, sym, _∙_}
 use native.Mathlib.Omega.{arith}
 use denote.Ref.{now}
 use Rattle.rules.specs.Board.{confirmed-size, confirmed-most}
@@ -10,7 +10,7 @@ use Rattle.confirms.proofs.tables.note_height.Statement.{statement}
 use Rattle.confirms.proofs.tables.note_height.Tie as tie
 
 find-requires : tie.Need-find-requires
-find-requires c κs = let s = c .before .before .before in searchable confirmed-size confirmed-most _ _ (now (s .args .id)) (omega arith) (s .pre .0) (s .pre .1 .1)
+find-requires c κs = let s = c .before .before .before in searchable confirmed-size confirmed-size confirmed-most _ _ (now (s .args .id)) refl (omega arith) (s .pre .0) (s .pre .1 .1)
 
 enum-known-i : tie.Need-enum-known-i
 enum-known-i c = search needs
@@ -18,7 +18,7 @@ enum-known-i c = search needs
 put-field-requires : tie.Need-put-field-requires
 put-field-requires c κs =
     let s = c .before .before .before .before .before .before .before .before in
-    let p = in-table confirmed-size confirmed-most _ _ _ _ (s .pre .0) (sym (c .before .before .before .before .find .ensures) ∙ c .before .before .i .given .1) in
+    let p = in-table confirmed-size confirmed-size confirmed-most _ _ _ _ refl (s .pre .0) (sym (c .before .before .before .before .find .ensures) ∙ c .before .before .i .given .1) in
     (p .0, (omega arith, p .1))
 
 enum-known-i-2 : tie.Need-enum-known-i-2

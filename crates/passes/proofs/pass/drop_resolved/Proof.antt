@@ -26,9 +26,9 @@ returns : tie.Need-returns
 returns c =
     let s = c .before .before .before .before .before in
     let xs = now (s .args .table) in
-    let e = keep-ext (passing 40 (AtMost 24)) (λ b. ltb (pending-of b .through) 25) (records 44 (s .args .used) xs) through-under in
+    let e = keep-ext (passing 40 (AtMost 24)) (λ b. ltb (pending-of b .through) 25) (records (s .args .size) (s .args .used) xs) through-under in
     let m = c .before .before .keep-passing .ensures in
-    (m .0 ∙ ap length e, m .1 ∙ ap (λ (rs : List (List ℕ)). laid 44 (s .args .used) rs xs) e)
+    (m .0 ∙ ap length e, m .1 ∙ ap (λ (rs : List (List ℕ)). laid (s .args .size) (s .args .used) rs xs) e)
 
 pub drop-resolved-spec : {M : Type 1} → statement M
 drop-resolved-spec = tie.close (tie.spec keep-passing-requires same-length returns)

@@ -1,7 +1,7 @@
 -- `passes::pass::raise_one` meets its contract.
 -- Assumes nothing.
 use mathlib.Core.Path.{_≡_, sym, ap, _∙_}
-use Prim.Native.Nat.{ℕ, _-_, _/_, min}
+use Prim.Native.Nat.{ℕ, _+_, _*_, _-_, _/_, min, _≤_}
 use native.Mathlib.Omega.{arith}
 use denote.Ref.{now}
 use mathlib.Core.List.{List, []}
@@ -10,6 +10,7 @@ use lib.Seq.{set-getD}
 use Rattle.rules.specs.Records.{records, laid}
 use Rattle.table.specs.Fields.{field}
 use Rattle.passes.specs.Fields.{reach}
+use Rattle.table.proofs.Records.{record-end}
 use Rattle.table.proofs.Fields.{field-record}
 use Rattle.passes.proofs.Fields.{raised-yes, raised-no}
 use Rattle.table.proofs.Laid.{laid-same}
@@ -22,35 +23,35 @@ abbrev start : tie.After-outwaited → tie.Start
 start n = n .before .before .before .before .before .before
 
 abbrev rec : tie.After-outwaited → List ℕ
-rec n = let a = start n .args in getD (records 44 (a .used) (now (a .table))) (a .i) []
+rec n = let a = start n .args in getD (records (a .size) (a .used) (now (a .table))) (a .i) []
 
 through-is : (n : tie.After-outwaited) → n .before .u32-le2 .result ≡ field 40 (rec n)
-through-is n = let s = start n in n .before .u32-le2 .ensures ∙ field-record 44 40 (s .args .used) (s .args .i) (now (s .args .table)) (omega arith) (s .pre .1 .0) (s .pre .1 .1)
+through-is n = let s = start n in n .before .u32-le2 .ensures ∙ field-record (s .args .size) 40 (s .args .used) (s .args .i) (now (s .args .table)) (omega arith) (s .pre .1 .1 .0) (s .pre .1 .1 .1)
 
 reach-is : (n : tie.After-outwaited) → n .outwaited .result ≡ reach (start n .args .width .0) (start n .args .h .0) (rec n)
 reach-is n =
     let s = start n in
     n .outwaited .ensures
     ∙ ap (λ (e : ℕ). min 25 ((s .args .h .0 - e) / s .args .width .0))
-    (n .before .before .before .u32-le .ensures ∙ field-record 44 36 (s .args .used) (s .args .i) (now (s .args .table)) (omega arith) (s .pre .1 .0) (s .pre .1 .1))
+    (n .before .before .before .u32-le .ensures ∙ field-record (s .args .size) 36 (s .args .used) (s .args .i) (now (s .args .table)) (omega arith) (s .pre .1 .1 .0) (s .pre .1 .1 .1))
 
-mul-u32-le : tie.Need-mul-u32-le
-mul-u32-le c = search needs
+end : (s : tie.Start) → s .args .i * s .args .size + s .args .size ≤ s .args .used * s .args .size
+end s = record-end (s .args .size) (s .args .used) (s .args .i) (s .pre .1 .1 .0)
+
+mul-at : tie.Need-mul-at
+mul-at c = omega (arith, end (c .before))
 
 add-u32-le : tie.Need-add-u32-le
-add-u32-le c = search needs
+add-u32-le c = omega (arith, end (c .before .before))
 
 u32-le-requires : tie.Need-u32-le-requires
-u32-le-requires c κs = search needs
-
-mul-u32-le-2 : tie.Need-mul-u32-le-2
-mul-u32-le-2 c = search needs
+u32-le-requires c κs = omega (arith, end (c .before .before))
 
 add-u32-le-2 : tie.Need-add-u32-le-2
-add-u32-le-2 c = search needs
+add-u32-le-2 c = omega (arith, end (c .before .before .before .before))
 
 u32-le-requires-2 : tie.Need-u32-le-requires-2
-u32-le-requires-2 c κs = search needs
+u32-le-requires-2 c κs = omega (arith, end (c .before .before .before .before))
 
 outwaited-requires : tie.Need-outwaited-requires
 outwaited-requires c κs = search needs
@@ -66,9 +67,9 @@ returns c =
     let n = c .before .before .before .before .before in
     let s = n .before .before .before .before .before .before in
     let xs = now (s .args .table) in
-    let rs = records 44 (s .args .used) xs in
+    let rs = records (s .args .size) (s .args .used) xs in
     c .before .before .put-field .ensures
-    ∙ ap (λ (w : List ℕ). laid 44 (s .args .used) (set rs (s .args .i) w) xs)
+    ∙ ap (λ (w : List ℕ). laid (s .args .size) (s .args .used) (set rs (s .args .i) w) xs)
     (raised-yes (s .args .width .0) (s .args .h .0) (n .before .u32-le2 .result) (n .outwaited .result) (getD rs (s .args .i) []) (through-is n) (reach-is n) (c .before .before .before .before .if1 .taken))
 
 same-length-2 : tie.Need-same-length-2
@@ -79,22 +80,21 @@ returns-2 c =
     let n = c .before in
     let s = n .before .before .before .before .before .before in
     let xs = now (s .args .table) in
-    let rs = records 44 (s .args .used) xs in
+    let rs = records (s .args .size) (s .args .used) xs in
     let r = getD rs (s .args .i) [] in
     sym
-    (ap (λ (w : List ℕ). laid 44 (s .args .used) (set rs (s .args .i) w) xs)
+    (ap (λ (w : List ℕ). laid (s .args .size) (s .args .used) (set rs (s .args .i) w) xs)
     (sym (raised-no (s .args .width .0) (s .args .h .0) (n .before .u32-le2 .result) (n .outwaited .result) r (through-is n) (reach-is n) (c .if1 .left)))
-    ∙ ap (λ (l : List (List ℕ)). laid 44 (s .args .used) l xs) (set-getD rs (s .args .i) [])
-    ∙ laid-same 44 (s .args .used) xs (s .pre .1 .1))
+    ∙ ap (λ (l : List (List ℕ)). laid (s .args .size) (s .args .used) l xs) (set-getD rs (s .args .i) [])
+    ∙ laid-same (s .args .size) (s .args .used) xs (s .pre .1 .1 .1))
 
 pub raise-one-spec : {M : Type 1} → statement M
 raise-one-spec =
     tie.close
     (tie.spec
-    mul-u32-le
+    mul-at
     add-u32-le
     u32-le-requires
-    mul-u32-le-2
     add-u32-le-2
     u32-le-requires-2
     outwaited-requires
