@@ -1,5 +1,5 @@
-//! Links the static library of the crate `ffi`. IZRUGHEM_LIB names the folder that has libffi.a; where it is not set the library is proved and built here,
-//! by `rt staticlib ffi` in the repository.
+//! Links the static library of the crate `izrughem`. IZRUGHEM_LIB names the folder that has libizrughem.a; where it is not set the library is proved and
+//! built here, by `rt staticlib izrughem` in the repository.
 
 use std::path::{Path, PathBuf};
 use std::process::Command;
@@ -12,11 +12,10 @@ fn main() {
     let target = (variable("CARGO_CFG_TARGET_ARCH"), variable("CARGO_CFG_TARGET_OS"));
     assert_eq!(target, ("x86_64".to_owned(), "linux".to_owned()), "the library is for x86-64 Linux");
 
-    let archive = env::var_os("IZRUGHEM_LIB").map_or_else(proved, PathBuf::from).join("libffi.a");
+    let folder = env::var_os("IZRUGHEM_LIB").map_or_else(proved, PathBuf::from);
+    let archive = folder.join("libizrughem.a");
+    assert!(archive.is_file(), "{}: no such file", archive.display());
     println!("cargo:rerun-if-changed={}", archive.display());
-    // Under a name of its own: a well-known library is called libffi.
-    let folder = PathBuf::from(variable("OUT_DIR"));
-    fs::copy(&archive, folder.join("libizrughem.a")).unwrap_or_else(|error| panic!("{}: {error}", archive.display()));
     println!("cargo:rustc-link-search=native={}", folder.display());
     println!("cargo:rustc-link-lib=static=izrughem");
 }
@@ -31,8 +30,8 @@ fn proved() -> PathBuf {
     for input in ["crates", "crates.txt"] {
         println!("cargo:rerun-if-changed={}", root.join(input).display());
     }
-    let status = Command::new("rt").args(["staticlib", "ffi"]).current_dir(&root).status();
+    let status = Command::new("rt").args(["staticlib", "izrughem"]).current_dir(&root).status();
     let status = status.unwrap_or_else(|error| panic!("rt, the command of the Rattle kit, does not run: {error}"));
-    assert!(status.success(), "rt staticlib ffi: {status}");
+    assert!(status.success(), "rt staticlib izrughem: {status}");
     root.join(Path::new("target/staticlib"))
 }

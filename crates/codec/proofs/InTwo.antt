@@ -9,8 +9,8 @@ use lib.ListN.{length, take, drop, length-drop}
 use lib.Seq.{take-add, drop-drop, sets, length-take-le}
 use Rattle.rules.specs.Bytes.{le, bytes}
 use Rattle.rules.proofs.Bytes.{length-bytes}
-use Rattle.seqs.proofs.Sets.{sets-append}
-use Rattle.words.specs.Le.{le-at}
+use Rattle.lists.proofs.Sets.{sets-append}
+use Rattle.mem.specs.Le.{le-at}
 
 -- ---- reading
 

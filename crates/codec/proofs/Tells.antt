@@ -12,7 +12,7 @@ use lib.Seq.{drop-drop}
 use borrow.Author.Tests.{le-leb, lt-leb, leb-true}
 use Rattle.kinds.specs.Answers.{Answer, corrupt}
 use Rattle.rules.specs.Bytes.{le}
-use Rattle.words.specs.Le.{le-at}
+use Rattle.mem.specs.Le.{le-at}
 use Rattle.format.specs.Parts.{Read, stopped, got, Part, and-then, _>>=_, _>>_, give, must, takes, number, times, is-read}
 
 -- ---- one step

@@ -13,14 +13,14 @@ use Rattle.kinds.specs.Answers.{bad-magic, unknown-version, corrupt}
 use Rattle.rules.specs.Ids.{same}
 use Rattle.rules.specs.Ladder.{buckets}
 use Rattle.format.specs.Parts.{Read, stopped, got, _>>=_, _>>_, and-then, give, refuse, must, takes, number, bad, good, begun, is-read}
-use Rattle.words.specs.Le.{le-at}
+use Rattle.mem.specs.Le.{le-at}
 use Rattle.format.specs.File.{version-1, magic, last-bytes, head-bytes, read-flagged, read-last, read-bucket-count, with-bucket-count, read-start, read-after, read-head}
 use lib.Seq.{sets}
 use Rattle.rules.specs.Bytes.{le, bytes}
 use Rattle.rules.specs.Records.{joined}
 use Rattle.rules.proofs.Bytes.{length-bytes}
-use Rattle.seqs.proofs.Sets.{sets-append}
-use Rattle.words.proofs.Laws.{le-at-next}
+use Rattle.lists.proofs.Sets.{sets-append}
+use Rattle.mem.proofs.Laws.{le-at-next}
 use Rattle.codec.proofs.Tells.{then-got, then-stopped, must-yes, must-no, takes-full, takes-short, number-at, number-short, Took, nothing, took, Takes, takes-then, takes-number, takes-must}
 
 -- ---- the bucket count

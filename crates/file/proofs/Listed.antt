@@ -15,8 +15,8 @@ use Rattle.rules.specs.Ladder.{last-bucket}
 use Rattle.rules.specs.Counts.{columns}
 use Rattle.rules.specs.Records.{records}
 use Rattle.rules.specs.Board.{Pending, pending-size, pending-of, confirmed-size, confirmed-of, in-range, pending-most, confirmed-most}
-use Rattle.seqs.proofs.Cut.{part-take}
-use Rattle.words.specs.Le.{le-at}
+use Rattle.lists.proofs.Cut.{part-take}
+use Rattle.mem.specs.Le.{le-at}
 use Rattle.format.specs.Parts.{Read, stopped, got, Part, give, number, times, bad, good, ended}
 use Rattle.format.specs.File.{version-1, read-pending, read-confirmed, read-table, Tables, read-tables}
 use Rattle.codec.proofs.Tells.{then-got, then-stopped, must-yes, must-no, number-at, number-short, Tells, tells-give, tells-must, tells-to, tells-then, tells-last, tells-takes, Takes, too-short, takes-give, takes-takes, takes-if, takes-then, takes-times}

@@ -12,7 +12,7 @@ use lib.ListN.{length, take, getD}
 use lib.Seq.{length-take-le}
 use Rattle.rules.specs.Bytes.{le}
 use Rattle.rules.proofs.Bytes.{are-bytes, bytes-take}
-use Rattle.words.specs.Le.{le-at}
+use Rattle.mem.specs.Le.{le-at}
 use Rattle.rules.specs.Ids.{same}
 use Rattle.format.specs.File.{magic}
 

@@ -31,7 +31,7 @@ fn counted(s: &[u8], at: usize) -> bool
     if s.len() - at < 4 {
         return false;
     }
-    words::u32_le(s, at) == 142
+    mem::u32_le(s, at) == 142
 }
 
 // The header's end, after the last height.
@@ -63,7 +63,7 @@ fn starts(s: &[u8]) -> Header
     if s.len() < 17 {
         return Header::Corrupt;
     }
-    let h = words::u32_le(s, 13);
+    let h = mem::u32_le(s, 13);
     ends(s, 17, Last::At(Height(h)))
 }
 
@@ -81,7 +81,7 @@ pub fn read_header(s: &[u8]) -> Header
     if s.len() < 12 {
         return Header::Corrupt;
     }
-    let v = words::u32_le(s, 8);
+    let v = mem::u32_le(s, 8);
     if v != 1 {
         return Header::UnknownVersion(v);
     }
@@ -106,12 +106,12 @@ fn put_last(out: &mut [u8], last: Last)
     match last {
         Last::Nothing => {
             put_u8(out, 12, 0);
-            words::put_u32(out, 13, 142);
+            mem::put_u32(out, 13, 142);
         }
         Last::At(h) => {
             put_u8(out, 12, 1);
-            words::put_u32(out, 13, h.0);
-            words::put_u32(out, 17, 142);
+            mem::put_u32(out, 13, h.0);
+            mem::put_u32(out, 17, 142);
         }
     }
 }
@@ -122,6 +122,6 @@ pub fn put_header(out: &mut [u8], last: Last)
     ensures { λ _. ⌜ now (out .exit) ≡ sets (now (out .entry)) 0 (head-bytes version-1 last) ⌝ }
 {
     put_u64(out, 0, 6000278246654169666);
-    words::put_u32(out, 8, 1);
+    mem::put_u32(out, 8, 1);
     put_last(out, last);
 }

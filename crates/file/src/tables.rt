@@ -22,8 +22,8 @@ fn record_ok(s: &[u8], at: usize) -> bool
     requires { ⌜ at + pending-size ≤ length (now s) ⌝ }
     ensures { λ r. ⌜ r ≡ in-range (pending-of (take pending-size (drop at (now (s .entry))))) ⌝ }
 {
-    if words::u32_le(s, at + 32) <= 141 {
-        return words::u32_le(s, at + 40) <= 25;
+    if mem::u32_le(s, at + 32) <= 141 {
+        return mem::u32_le(s, at + 40) <= 25;
     }
     false
 }
@@ -63,7 +63,7 @@ pub fn read_tables(s: &[u8], at: usize) -> Sizes
     if s.len() - at < 4 {
         return unreadable();
     }
-    let n = words::u32_le(s, at) as usize;
+    let n = mem::u32_le(s, at) as usize;
     if 10000 < n {
         return unreadable();
     }
@@ -77,7 +77,7 @@ pub fn read_tables(s: &[u8], at: usize) -> Sizes
     if s.len() - next < 4 {
         return unreadable();
     }
-    let m = words::u32_le(s, next) as usize;
+    let m = mem::u32_le(s, next) as usize;
     if 1000000 < m {
         return unreadable();
     }

@@ -5,9 +5,9 @@ use Prim.Native.Nat.{ℕ, _*_, _≤_}
 use native.Mathlib.Nat.{zero-mul}
 use lib.ListN.{length, take, drop, replicate}
 use lib.Seq.{length-take-le}
-use Rattle.seqs.specs.Upto.{upto}
+use Rattle.lists.specs.Upto.{upto}
 use Rattle.rules.specs.Records.{joined, laid}
-use Rattle.words.specs.Moves.{zeroed}
+use Rattle.mem.specs.Moves.{zeroed}
 
 all-one : {A : Type 0} (v : A) (xs : List A) → map (λ _. v) xs ≡ replicate (length xs) v
 all-one v [] = refl

@@ -24,5 +24,5 @@ pub fn clear_table(table: &mut [u8], size: usize, most: usize)
     ensures { λ _. ⌜ now (table .exit) ≡ laid size (capacity size most (now (table .entry))) [] (now (table .entry)) ⌝ }
 {
     let n = table::capacity(table, size, most);
-    words::zero(table, 0, n * size);
+    mem::zero(table, 0, n * size);
 }

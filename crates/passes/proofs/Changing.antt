@@ -6,8 +6,8 @@ use Prim.Native.Nat.{ℕ, _+_, _*_, _≤_, _<_, zero-le}
 use native.Mathlib.Nat.{le-refl}
 use native.Mathlib.Omega.{arith}
 use lib.ListN.{length, getD, set, length-set}
-use Rattle.seqs.specs.Upto.{upto}
-use Rattle.seqs.proofs.Upto as up
+use Rattle.lists.specs.Upto.{upto}
+use Rattle.lists.proofs.Upto as up
 use Rattle.rules.specs.Records.{records, laid}
 use Rattle.rules.proofs.Records.{length-records}
 use Rattle.table.proofs.Records.{sized-set, sized-at}

@@ -9,11 +9,11 @@ use native.Mathlib.Numerals.{add-one}
 use native.Mathlib.Omega.{arith}
 use lib.ListN.{length, take, drop, getD, length-append, length-drop}
 use lib.Seq.{take-suc, take-paste, drop-paste, drop-drop, take-all}
-use Rattle.seqs.proofs.Lists.{keep-append, keep-yes, keep-no}
-use Rattle.seqs.proofs.Part.{next-part}
+use Rattle.lists.proofs.Lists.{keep-append, keep-yes, keep-no}
+use Rattle.lists.proofs.Part.{next-part}
 use Rattle.rules.specs.Lists.{keep}
 use Rattle.rules.specs.Records.{records, joined, laid}
-use Rattle.words.specs.Moves.{shifted-down, zeroed}
+use Rattle.mem.specs.Moves.{shifted-down, zeroed}
 use Rattle.passes.specs.Fields.{Moved}
 use Rattle.rules.proofs.Records.{length-records}
 use Rattle.table.proofs.Records.{getD-records, joined-snoc}

@@ -8,7 +8,7 @@ use native.Mathlib.Omega.{arith}
 use lib.Dec.{leb, ltb, lit<}
 use lib.ListN.{length}
 use borrow.Author.Tests.{ltb-true, ltb-false}
-use Rattle.seqs.proofs.Lists.{map-keep}
+use Rattle.lists.proofs.Lists.{map-keep}
 use Rattle.rules.specs.Lists.{keep}
 use Rattle.rules.specs.Ids.{Id}
 use Rattle.rules.specs.Board.{Board, Pending, pending-of, confirmed-of}

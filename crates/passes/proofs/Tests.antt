@@ -10,7 +10,7 @@ use borrow.Author.Tests.{leb-true, leb-false, le-leb, lt-leb, lt-ltb, le-ltb}
 use Rattle.rules.specs.Lists.{every}
 use Rattle.rules.specs.Records.{records}
 use Rattle.rules.specs.Memory.{pending-records}
-use Rattle.seqs.proofs.Lists.{every-map, every-both}
+use Rattle.lists.proofs.Lists.{every-map, every-both}
 use Rattle.table.specs.Fields.{field}
 use Rattle.passes.specs.Fields.{passing, in-bound}
 use Rattle.passes.specs.declared.Bound.the-variants.{AtMost, AtLeast}

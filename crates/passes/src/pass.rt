@@ -26,7 +26,7 @@ fn passes(table: &[u8], size: usize, i: usize, off: usize, b: Bound) -> bool
     requires { ⌜ (off + 4 ≤ size) × (i * size + size ≤ length (now table)) ⌝ }
     ensures { λ r. ⌜ r ≡ passing off b (take size (drop (i * size) (now (table .entry)))) ⌝ }
 {
-    within(words::u32_le(table, i * size + off), b)
+    within(mem::u32_le(table, i * size + off), b)
 }
 
 // Whether that of every record is.
@@ -50,7 +50,7 @@ fn keep_one(table: &mut [u8], size: usize, k: usize, i: usize, off: usize, b: Bo
     ensures { λ r. ⌜ Moved (passing off b) size k i (now (table .entry)) (now (table .exit)) r ⌝ }
 {
     if passes(table, size, i, off, b) {
-        words::shift_down(table, k * size, i * size - k * size, size);
+        mem::shift_down(table, k * size, i * size - k * size, size);
         k + 1
     } else {
         k
@@ -69,7 +69,7 @@ fn keep_passing(table: &mut [u8], size: usize, used: usize, off: usize, b: Bound
         k = keep_one(table, size, k, i, off, b);
         i += 1;
     }
-    words::zero(table, k * size, used * size);
+    mem::zero(table, k * size, used * size);
     k
 }
 
@@ -113,8 +113,8 @@ fn raise_one(table: &mut [u8], size: usize, used: usize, i: usize, h: Height, wi
     ensures { λ _. ⌜ now (table .exit) ≡ laid size used (set (records size used (now (table .entry))) i (raised (width .0) (h .0) (getD (records size used (now (table .entry))) i []))) (now (table .entry)) ⌝ }
 {
     let at = i * size;
-    let entry = words::u32_le(table, at + 36);
-    let through = words::u32_le(table, at + 40);
+    let entry = mem::u32_le(table, at + 36);
+    let through = mem::u32_le(table, at + 40);
     let reach = outwaited(h, Height(entry), width);
     if through < reach {
         table::put_field(table, size, used, i, 40, reach);

@@ -8,7 +8,7 @@ use native.Mathlib.Numerals.{add-one}
 use native.Mathlib.Omega.{arith}
 use lib.ListN.{length, take, drop, getD, length-append, take-append-drop, drop-of-length-le}
 use lib.Seq.{drop-cons, drop-drop, getD-at}
-use Rattle.seqs.proofs.Part.{next-part}
+use Rattle.lists.proofs.Part.{next-part}
 use Rattle.rules.specs.Ids.{Id, same}
 use Rattle.rules.specs.Records.{records, joined, id-of}
 use Rattle.rules.proofs.Records.{Sized, length-records, sized-records, joined-records, records-joined}

@@ -19,7 +19,7 @@ use Rattle.rules.proofs.Records.{Sized, and-left, and-right, length-records, si
 use Rattle.format.specs.File.{settled}
 use Rattle.format.proofs.Back.{all-imply}
 use Rattle.format.proofs.Order.{settled-rising}
-use Rattle.words.specs.Moves.{zeroed}
+use Rattle.mem.specs.Moves.{zeroed}
 use Rattle.table.proofs.Laid.{laid-full, laid-more}
 use Rattle.table.proofs.Holding.{Holds, holds-records}
 use Rattle.restore.specs.Shell.{Shuffled, Sorted}

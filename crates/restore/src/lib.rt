@@ -17,14 +17,14 @@ pub fn load_table(table: &mut [u8], src: &[u8], size: usize, n: usize, room: usi
     ensures { λ r. ⌜ r ≡ length (settled id-of [] (records size n (now (src .entry)))) ⌝ }
     ensures { λ _. ⌜ now (table .exit) ≡ laid size room (settled id-of [] (records size n (now (src .entry)))) (now (table .entry)) ⌝ }
 {
-    words::put_bytes(table, 0, &src[..n * size]);
+    mem::put_bytes(table, 0, &src[..n * size]);
     if table::ids_rise(table, size, n) {
-        words::zero(table, n * size, room * size);
+        mem::zero(table, n * size, room * size);
         return n;
     }
     shell::sort(table, size, n);
     let k = once::drop_repeats(table, size, n);
-    words::zero(table, k * size, room * size);
+    mem::zero(table, k * size, room * size);
     renew::renew_all(table, src, size, k, n);
     k
 }

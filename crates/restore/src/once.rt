@@ -29,7 +29,7 @@ fn keep_other(table: &mut [u8], size: usize, k: usize, i: usize) -> usize
     if same_ids(table, (k - 1) * size, i * size) {
         k
     } else {
-        words::shift_down(table, k * size, i * size - k * size, size);
+        mem::shift_down(table, k * size, i * size - k * size, size);
         k + 1
     }
 }

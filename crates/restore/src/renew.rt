@@ -19,7 +19,7 @@ fn renew(table: &mut [u8], size: usize, used: usize, rec: &[u8])
     ensures { λ _. ⌜ now (table .exit) ≡ laid size used (placed id-of (now (rec .entry)) (records size used (now (table .entry)))) (now (table .entry)) ⌝ }
 {
     if let Found::At(i) = table::find(table, size, used, &rec[..32]) {
-        words::put_bytes(table, i * size, rec);
+        mem::put_bytes(table, i * size, rec);
     }
 }
 

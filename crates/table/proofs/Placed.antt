@@ -8,13 +8,13 @@ use native.Mathlib.Nat.{zero-add}
 use native.Mathlib.Omega.{arith}
 use lib.ListN.{length, set, length-set, length-map}
 use lib.Seq.{sets}
-use Rattle.seqs.proofs.Part.{next-part}
+use Rattle.lists.proofs.Part.{next-part}
 use Rattle.rules.specs.Ids.{rising, placed, dropped}
 use Rattle.rules.specs.Records.{records, id-of, laid}
 use Rattle.rules.proofs.Records.{Sized, length-records, sized-records}
 use Rattle.table.specs.Search.{find-in}
 use Rattle.table.specs.Edit.{insert-at}
-use Rattle.words.specs.Moves.{zeroed}
+use Rattle.mem.specs.Moves.{zeroed}
 use Rattle.table.specs.declared.Found.the-variants.{At, Gap}
 use Rattle.table.proofs.Records.{sized-set}
 use Rattle.table.proofs.Laid.{laid-more, record-bytes, length-insert}

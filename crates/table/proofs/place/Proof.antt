@@ -7,7 +7,7 @@ use native.Mathlib.Nat.{mul-le-mul-left}
 use native.Mathlib.Omega.{arith}
 use lib.Seq.{length-take-le}
 use denote.Ref.{now}
-use Rattle.seqs.proofs.Part.{next-part}
+use Rattle.lists.proofs.Part.{next-part}
 use Rattle.rules.specs.Records.{records, id-of, laid}
 use Rattle.table.specs.Search.{find-in}
 use Rattle.table.specs.declared.Found.{Found}

@@ -6,7 +6,7 @@ use borrow.Author.Tests.{eq-eqb, ne-eqb}
 use lib.ListN.{length}
 use Rattle.kinds.specs.Answers.{unknown-version}
 use Rattle.format.specs.Parts.{begun, bad}
-use Rattle.words.specs.Le.{le-at}
+use Rattle.mem.specs.Le.{le-at}
 use Rattle.file.specs.Says.{header-says}
 use Rattle.file.proofs.Same.{is-magic}
 use Rattle.file.proofs.Header.{head-short, head-other, head-no-version, head-version, head-one}

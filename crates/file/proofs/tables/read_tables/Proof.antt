@@ -7,7 +7,7 @@ use native.Mathlib.Omega.{arith}
 use borrow.Author.Tests.{not-true, not-false}
 use Rattle.kinds.specs.Answers.{corrupt}
 use Rattle.format.specs.Parts.{bad}
-use Rattle.words.specs.Le.{le-at}
+use Rattle.mem.specs.Le.{le-at}
 use Rattle.rules.specs.Board.{pending-most, confirmed-most}
 use Rattle.format.specs.File.{version-1, read-pending, read-confirmed}
 use Rattle.file.proofs.Listed.{table-short, table-many, pending-refused, pending-cut, pending-bad, recent-refused, recent-cut, recent-extra, both-good}

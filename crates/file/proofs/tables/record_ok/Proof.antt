@@ -4,7 +4,7 @@ use Prim.Native.Nat.{ℕ, _+_, _≤_, _<_}
 use native.Mathlib.Omega.{arith}
 use lib.Dec.{leb}
 use borrow.Author.Tests.{le-leb, lt-leb}
-use Rattle.words.specs.Le.{le-at}
+use Rattle.mem.specs.Le.{le-at}
 use Rattle.file.proofs.Listed.{in-range-at}
 use borrow.Author.Needs.{needs}
 use Rattle.file.proofs.tables.record_ok.Statement.{statement}

@@ -5,7 +5,7 @@ use Prim.Native.Nat.{_-_}
 use native.Mathlib.Omega.{arith}
 use denote.Ref.{now}
 use lib.Ieee.{nan, binary64, ofBits}
-use Rattle.seqs.proofs.Upto.{Going, start, step, stop}
+use Rattle.lists.proofs.Upto.{Going, start, step, stop}
 use Rattle.rules.specs.Counts.{nought, places-of-counts}
 use Rattle.memory.proofs.Clearing.{filled}
 use Rattle.memory.proofs.clear.clear_counts.Statement.{statement}

@@ -10,7 +10,7 @@ use lib.ListN.{length, drop}
 use borrow.Author.Tests.{not-true, not-false}
 use Rattle.rules.specs.Lists.{every}
 use Rattle.rules.specs.Records.{records}
-use Rattle.seqs.proofs.Lists.{every-next, every-end}
+use Rattle.lists.proofs.Lists.{every-next, every-end}
 use Rattle.passes.specs.Fields.{passing}
 use Rattle.table.proofs.Records.{record-end, getD-records}
 use Rattle.rules.proofs.Records.{length-records}

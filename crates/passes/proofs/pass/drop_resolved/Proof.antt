@@ -7,7 +7,7 @@ use mathlib.Core.List.{List}
 use lib.Dec.{ltb}
 use lib.ListN.{length}
 use Rattle.rules.specs.Records.{records, laid}
-use Rattle.seqs.proofs.Lists.{keep-ext}
+use Rattle.lists.proofs.Lists.{keep-ext}
 use Rattle.passes.specs.Fields.{passing}
 use Rattle.passes.specs.declared.Bound.the-variants.{AtMost}
 use Rattle.passes.proofs.Tests.{through-under}

@@ -10,7 +10,7 @@ use lib.ListN.{take, drop}
 use lib.Seq.{take-take}
 use borrow.Author.Needs.{needs}
 use denote.Ref.{now}
-use Rattle.seqs.proofs.Part.{next-part}
+use Rattle.lists.proofs.Part.{next-part}
 use Rattle.rules.specs.Ids.{Id, same}
 use Rattle.rules.specs.Records.{id-of}
 use Rattle.table.proofs.Ids.{id32}

@@ -10,7 +10,7 @@ use lib.Dec.{ltb}
 use mathlib.Core.Bool.{_&&_}
 use lib.ListN.{length, drop}
 use Rattle.rules.specs.Lists.{every}
-use Rattle.seqs.proofs.Lists.{every-next, every-end}
+use Rattle.lists.proofs.Lists.{every-next, every-end}
 use Rattle.script.specs.Digits.{digit, in-base}
 use Rattle.script.specs.Hex.{is-hex}
 use Rattle.script.proofs.hex.is_hex.Statement.{statement}

@@ -8,7 +8,7 @@ use borrow.Author.Needs.{needs}
 use denote.Ref.{now}
 use lib.ListN.{length, getD, set, length-set}
 use lib.Seq.{take-all}
-use Rattle.seqs.proofs.Swept.{swept, swept-more}
+use Rattle.lists.proofs.Swept.{swept, swept-more}
 use Rattle.script.specs.Digits.{digit}
 use Rattle.script.specs.Hex.{hex-bytes}
 use Rattle.script.proofs.Hexes.{length-hex, hex-at, hex-digit}

@@ -1,0 +1,78 @@
+-- The calls over words, said of the calls below them: what does not fit is Damaged, and else a call's answer, state and memory are what its caller sees.
+-- Assumes nothing.
+use mathlib.Core.Path.{_≡_, refl, sym, ap, ap₂, _∙_}
+use mathlib.Core.Bool.{Bool, true, false, _&&_}
+use mathlib.Core.List.{List, [], _∷_}
+use Prim.Native.Nat.{ℕ, _≤_}
+use native.Mathlib.Nat.{pos-of-ne-zero}
+use native.Mathlib.Omega.{arith}
+use borrow.Author.Tests.{le-leb, lt-leb}
+use lib.Dec.{leb}
+use lib.ListN.{length}
+use Rattle.kinds.specs.declared.State.{State}
+use Rattle.kinds.specs.Answers.{Answer}
+use Rattle.rules.specs.Calls.{Outcome, outcome}
+use Rattle.format.specs.Calls.{Output, output}
+use Rattle.izrughem.specs.Words.{put-state}
+use Rattle.izrughem.specs.Calls.{Seen, seen, if-fit, told, put-if-done, carry, begun, rate-carried, length-carried}
+
+-- ---- what fits
+
+pub not-first : (a b : Bool) → a ≡ false → a && b ≡ false
+not-first a b p = rw p
+
+pub not-second : (a b : Bool) → b ≡ false → a && b ≡ false
+not-second true b p = p
+not-second false b p = refl
+
+pub both : (a b : Bool) → a ≡ true → b ≡ true → a && b ≡ true
+both a b p q = rw (p, q)
+
+pub no-word : (cs : List ℕ) → length cs ≡ 0 → leb 1 (length cs) ≡ false
+no-word cs e = lt-leb 1 (length cs) (omega arith)
+
+pub a-word : (cs : List ℕ) → (length cs ≡ 0 → ⊥) → leb 1 (length cs) ≡ true
+a-word cs n = le-leb 1 (length cs) (pos-of-ne-zero n)
+
+module _ {L : Type 0} (fit : Bool) (ws cs : List ℕ) (l : L) (s : Seen L) where
+  pub unfit : fit ≡ false → seen 1 ws cs l ≡ if-fit fit ws cs l s
+  unfolding if-fit
+  unfit e = sym (rw e)
+
+  pub fits : fit ≡ true → (t : Seen L) → t ≡ s → t ≡ if-fit fit ws cs l s
+  unfolding if-fit
+  fits e t p = p ∙ sym (rw e)
+
+-- ---- what the caller of a call sees
+
+module _ {L : Type 0} (ws : List ℕ) (a : Answer) (s : State) (l : L) (o : Outcome L) (e : outcome a s l ≡ o) where
+  -- a call whose state goes into the words
+  pub tells : (n : ℕ) (vs : List ℕ) → n ≡ a .number → vs ≡ put-state s ws → seen n vs [] l ≡ told ws o
+  unfolding told
+  tells n vs p q = ap₂ (λ (m : ℕ) (us : List ℕ). seen m us [] l) p q ∙ ap (told ws) e
+
+  -- a call that begins a run
+  pub begins : (cs : List ℕ) (n : ℕ) (vs ds : List ℕ) → n ≡ a .number → vs ≡ put-if-done a s ws → ds ≡ carry (a .carries) cs → seen n vs ds l ≡ begun ws cs o
+  unfolding begun
+  begins cs n vs ds p q r =
+      ap₂ (λ (m : ℕ) (us : List ℕ). seen m us ds l) p q ∙ ap (λ (bs : List ℕ). seen (a .number) (put-if-done a s ws) bs l) r ∙ ap (begun ws cs) e
+
+-- no word changes where there is none
+pub carry-none : (vs : List ℕ) → [] ≡ carry vs []
+unfolding carry
+carry-none [] = refl
+carry-none (v ∷ vs) = refl
+
+-- an estimate
+pub estimates : (ws cs : List ℕ) (a b : Answer) → a ≡ b → (n : ℕ) (ds : List ℕ) → n ≡ a .number → ds ≡ carry (rate-carried a) cs
+    → seen {L = Unit} n ws ds tt ≡ seen (b .number) ws (carry (rate-carried b) cs) tt
+estimates ws cs a b e n ds p q =
+    ap₂ (λ (m : ℕ) (bs : List ℕ). seen {L = Unit} m ws bs tt) p q ∙ ap (λ (x : Answer). seen {L = Unit} (x .number) ws (carry (rate-carried x) cs) tt) e
+
+-- a write
+pub writes : (ws cs : List ℕ) (a : Answer) (s : State) (k : ℕ) (out : List ℕ) (o : Outcome Output) → outcome a s (output k out) ≡ o
+    → (n : ℕ) (ds : List ℕ) → n ≡ a .number → ds ≡ carry (length-carried a k) cs
+    → seen n ws ds out ≡ seen (o .answer .number) ws (carry (length-carried (o .answer) (o .lent .len)) cs) (o .lent .bytes)
+writes ws cs a s k out o e n ds p q =
+    ap₂ (λ (m : ℕ) (bs : List ℕ). seen m ws bs out) p q
+    ∙ ap (λ (x : Outcome Output). seen (x .answer .number) ws (carry (length-carried (x .answer) (x .lent .len)) cs) (x .lent .bytes)) e

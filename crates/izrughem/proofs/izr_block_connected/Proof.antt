@@ -1,0 +1,88 @@
+-- `izrughem::izr_block_connected` meets its contract. Assumes nothing.
+use mathlib.Core.Path.{_≡_, sym, ap, _∙_}
+use mathlib.Core.Bool.{true}
+use denote.Ref.{now}
+use borrow.Author.Tests.{not-true, not-false}
+use borrow.Author.Needs.{needs}
+use Rattle.kinds.specs.declared.State.{State}
+use Rattle.rules.specs.Board.{base}
+use Rattle.rules.specs.Memory.{lent}
+use Rattle.rules.specs.Calls.{block-call}
+use Rattle.izrughem.specs.Words.{holds-state}
+use Rattle.izrughem.specs.Calls.{izr-block-connected}
+use Rattle.izrughem.proofs.Words.{four}
+use Rattle.izrughem.proofs.Calls.{unfit, fits, tells}
+use Rattle.izrughem.proofs.izr_block_connected.Statement.{statement}
+use Rattle.izrughem.proofs.izr_block_connected.Tie as tie
+
+abbrev start : tie.Else1 → tie.Start
+start c = c .before .before .before .before .before .before .before .before .before
+
+-- past the first test the words hold a state
+held : (c : tie.Else1) → holds-state (now (start c .args .state)) ≡ true
+held c = sym (c .before .holds-state .ensures) ∙ not-false _ (c .if1 .left)
+
+holds-state-requires : tie.Need-holds-state-requires
+holds-state-requires c κs = search needs
+
+same-length : tie.Need-same-length
+same-length c = search needs
+
+returns : tie.Need-returns
+unfolding izr-block-connected
+returns c = unfit _ _ _ _ _ (sym (c .before .holds-state .ensures) ∙ not-true _ (c .if1 .taken))
+
+state-in-requires : tie.Need-state-in-requires
+state-in-requires c κs = held (c .before)
+
+block-connected-requires : tie.Need-block-connected-requires
+block-connected-requires c κs = search needs
+
+put-state-requires : tie.Need-put-state-requires
+put-state-requires c κs = let e = c .before .before .before .before .before .before .before .before .before .before .before .before .before .before .before .before .before in four (now (start e .args .state)) (held e)
+
+block-number-requires : tie.Need-block-number-requires
+block-number-requires c κs = search needs
+
+same-length-2 : tie.Need-same-length-2
+same-length-2 c = search needs
+
+same-length-3 : tie.Need-same-length-3
+same-length-3 c = search needs
+
+same-length-4 : tie.Need-same-length-4
+same-length-4 c = search needs
+
+same-length-5 : tie.Need-same-length-5
+same-length-5 c = search needs
+
+same-length-6 : tie.Need-same-length-6
+same-length-6 c = search needs
+
+returns-2 : tie.Need-returns-2
+unfolding izr-block-connected
+returns-2 c =
+    let e = c .before .before .before .before .before .before .before .before .before .before .before .before .before .before .before .before .before .before .before .before .before in
+    let a = start e .args in
+    let same =
+    ap (λ (s : State). block-call base s (lent (now (a .confirmed)) (now (a .resolved)) (now (a .pending)) (now (a .recent))) (now (a .ids)) (record { 0 = a .height }))
+    (c .before .before .before .before .before .before .before .before .before .before .before .before .before .before .before .before .before .before .before .state-in .ensures) in
+    fits _ _ _ _ _ (held e) _ (tells (now (a .state)) _ _ _ _ (c .before .before .before .before .before .before .before .before .before .before .before .before .before .before .block-connected .ensures ∙ same) _ _ (c .block-number .ensures) (c .before .before .before .put-state .ensures))
+
+pub izr-block-connected-spec : {M : Type 1} → statement M
+izr-block-connected-spec =
+    tie.close
+    (tie.spec
+    holds-state-requires
+    same-length
+    returns
+    state-in-requires
+    block-connected-requires
+    put-state-requires
+    block-number-requires
+    same-length-2
+    same-length-3
+    same-length-4
+    same-length-5
+    same-length-6
+    returns-2)

@@ -1,0 +1,66 @@
+-- `izrughem::izr_estimate` meets its contract. Assumes nothing.
+use mathlib.Core.Path.{_≡_, sym, ap, _∙_}
+use mathlib.Core.Bool.{true}
+use denote.Ref.{now}
+use borrow.Author.Tests.{not-true, not-false}
+use borrow.Author.Needs.{needs}
+use Rattle.kinds.specs.declared.State.{State}
+use Rattle.rules.specs.Board.{base}
+use Rattle.rules.specs.Calls.{estimate-call}
+use Rattle.izrughem.specs.Words.{holds-state}
+use Rattle.izrughem.specs.Calls.{izr-estimate}
+use Rattle.izrughem.proofs.Calls.{not-first, not-second, both, no-word, a-word, unfit, fits, estimates}
+use Rattle.izrughem.proofs.izr_estimate.Statement.{statement}
+use Rattle.izrughem.proofs.izr_estimate.Tie as tie
+
+abbrev start : tie.Else1 → tie.Start
+start c = c .before .before .before .before .before .before
+
+-- past the first test the words hold a state
+held : (c : tie.Else1) → holds-state (now (start c .args .state)) ≡ true
+held c = sym (c .before .holds-state .ensures) ∙ not-false _ (c .if1 .left)
+
+holds-state-requires : tie.Need-holds-state-requires
+holds-state-requires c κs = search needs
+
+returns : tie.Need-returns
+unfolding izr-estimate
+returns c = unfit _ _ _ _ _ (not-first _ _ (sym (c .before .holds-state .ensures) ∙ not-true _ (c .if1 .taken)))
+
+returns-2 : tie.Need-returns-2
+unfolding izr-estimate
+returns-2 c = unfit _ _ _ _ _ (not-second (holds-state (now (start (c .before) .args .state))) _ (no-word (now (start (c .before) .args .carried)) (c .if2 .taken)))
+
+state-in-requires : tie.Need-state-in-requires
+state-in-requires c κs = held (c .before)
+
+estimate-requires : tie.Need-estimate-requires
+estimate-requires c κs = search needs
+
+tell-estimated-requires : tie.Need-tell-estimated-requires
+tell-estimated-requires c κs = search needs
+
+same-length : tie.Need-same-length
+same-length c = search needs
+
+returns-3 : tie.Need-returns-3
+unfolding izr-estimate
+returns-3 c =
+    let e = c .before .before .before .before .before .before .before in
+    let a = start e .args in
+    let same = ap (λ (s : State). estimate-call base s (now (a .confirmed)) (now (a .resolved)) (record { 0 = a .target })) (c .before .before .before .before .before .state-in .ensures) in
+    let told = c .before .before .tell-estimated .ensures in
+    fits _ _ _ _ _ (both _ _ (held e) (a-word (now (a .carried)) (c .before .before .before .before .before .before .if2 .left))) _ (estimates _ _ _ _ (c .before .before .before .before .estimate .ensures ∙ same) _ _ (told .0) (told .1))
+
+pub izr-estimate-spec : {M : Type 1} → statement M
+izr-estimate-spec =
+    tie.close
+    (tie.spec
+    holds-state-requires
+    returns
+    returns-2
+    state-in-requires
+    estimate-requires
+    tell-estimated-requires
+    same-length
+    returns-3)

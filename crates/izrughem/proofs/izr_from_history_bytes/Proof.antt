@@ -1,0 +1,70 @@
+-- `izrughem::izr_from_history_bytes` meets its contract. Assumes nothing.
+use denote.Ref.{now}
+use borrow.Author.Tests.{le-leb, lt-leb}
+use lib.Dec.{leb}
+use lib.ListN.{length}
+use borrow.Author.Needs.{needs}
+use Rattle.izrughem.specs.Calls.{izr-from-history-bytes}
+use Rattle.izrughem.proofs.Calls.{not-first, not-second, both, no-word, a-word, unfit, fits, begins}
+use Rattle.izrughem.proofs.izr_from_history_bytes.Statement.{statement}
+use Rattle.izrughem.proofs.izr_from_history_bytes.Tie as tie
+
+abbrev start : tie.Else1 → tie.Start
+start c = c .before .before .before .before .before .before .before .before
+
+returns : tie.Need-returns
+unfolding izr-from-history-bytes
+returns c = unfit _ _ _ _ _ (not-first _ _ (lt-leb 4 _ (c .if1 .taken)))
+
+returns-2 : tie.Need-returns-2
+unfolding izr-from-history-bytes
+returns-2 c = unfit _ _ _ _ _ (not-second (leb 4 (length (now (start (c .before) .args .state)))) _ (no-word (now (start (c .before) .args .carried)) (c .if2 .taken)))
+
+from-history-bytes-requires : tie.Need-from-history-bytes-requires
+from-history-bytes-requires c κs = search needs
+
+tell-reading-requires : tie.Need-tell-reading-requires
+tell-reading-requires c κs = search needs
+
+same-length : tie.Need-same-length
+same-length c = search needs
+
+same-length-2 : tie.Need-same-length-2
+same-length-2 c = search needs
+
+same-length-3 : tie.Need-same-length-3
+same-length-3 c = search needs
+
+same-length-4 : tie.Need-same-length-4
+same-length-4 c = search needs
+
+same-length-5 : tie.Need-same-length-5
+same-length-5 c = search needs
+
+same-length-6 : tie.Need-same-length-6
+same-length-6 c = search needs
+
+returns-3 : tie.Need-returns-3
+unfolding izr-from-history-bytes
+returns-3 c =
+    let e = c .before .before .before .before .before .before .before .before .before .before .before .before .before .before .before .before .before .before .before .before .before in
+    let a = start e .args in
+    let told = c .before .before .before .before .tell-reading .ensures in
+    fits _ _ _ _ _ (both _ _ (le-leb 4 _ (e .if1 .left)) (a-word (now (a .carried)) (c .before .before .before .before .before .before .before .before .before .before .before .before .before .before .before .before .before .before .before .before .if2 .left))) _
+    (begins (now (a .state)) _ _ _ _ (c .before .before .before .before .before .before .before .before .before .before .before .before .before .before .before .from-history-bytes .ensures) (now (a .carried)) _ _ _ (told .0) (told .1 .0) (told .1 .1))
+
+pub izr-from-history-bytes-spec : {M : Type 1} → statement M
+izr-from-history-bytes-spec =
+    tie.close
+    (tie.spec
+    returns
+    returns-2
+    from-history-bytes-requires
+    tell-reading-requires
+    same-length
+    same-length-2
+    same-length-3
+    same-length-4
+    same-length-5
+    same-length-6
+    returns-3)

@@ -1,0 +1,90 @@
+-- `izrughem::izr_tx_entered` meets its contract. Assumes nothing.
+use mathlib.Core.Path.{_≡_, sym, ap₂, _∙_}
+use mathlib.Core.Bool.{true}
+use mathlib.Core.List.{List}
+use Prim.Native.Nat.{ℕ}
+use denote.Ref.{now}
+use borrow.Author.Tests.{not-true, not-false, eq-eqb, ne-eqb}
+use lib.ListN.{length}
+use borrow.Author.Needs.{needs}
+use Rattle.kinds.specs.declared.State.{State}
+use Rattle.rules.specs.Board.{base}
+use Rattle.rules.specs.Calls.{enter-call}
+use Rattle.izrughem.specs.Words.{holds-state}
+use Rattle.izrughem.specs.Calls.{izr-tx-entered}
+use Rattle.izrughem.proofs.Words.{four}
+use Rattle.izrughem.proofs.Calls.{not-first, not-second, both, unfit, fits, tells}
+use Rattle.izrughem.proofs.izr_tx_entered.Statement.{statement}
+use Rattle.izrughem.proofs.izr_tx_entered.Tie as tie
+
+abbrev start : tie.Else1 → tie.Start
+start c = c .before .before .before .before .before .before
+
+-- past the first test the words hold a state
+held : (c : tie.Else1) → holds-state (now (start c .args .state)) ≡ true
+held c = sym (c .before .holds-state .ensures) ∙ not-false _ (c .if1 .left)
+
+holds-state-requires : tie.Need-holds-state-requires
+holds-state-requires c κs = search needs
+
+same-length : tie.Need-same-length
+same-length c = search needs
+
+returns : tie.Need-returns
+unfolding izr-tx-entered
+returns c = unfit _ _ _ _ _ (not-first _ _ (sym (c .before .holds-state .ensures) ∙ not-true _ (c .if1 .taken)))
+
+same-length-2 : tie.Need-same-length-2
+same-length-2 c = search needs
+
+returns-2 : tie.Need-returns-2
+unfolding izr-tx-entered
+returns-2 c = unfit _ _ _ _ _ (not-second (holds-state (now (start (c .before) .args .state))) _ (ne-eqb (length (now (start (c .before) .args .id))) 32 (c .if2 .taken)))
+
+id-in-requires : tie.Need-id-in-requires
+id-in-requires c κs = search needs
+
+state-in-requires : tie.Need-state-in-requires
+state-in-requires c κs = held (c .before .before .before)
+
+tx-entered-requires : tie.Need-tx-entered-requires
+tx-entered-requires c κs = search needs
+
+put-state-requires : tie.Need-put-state-requires
+put-state-requires c κs = let e = c .before .before .before .before .before .before .before .before .before .before .before in four (now (start e .args .state)) (held e)
+
+enter-number-requires : tie.Need-enter-number-requires
+enter-number-requires c κs = search needs
+
+same-length-3 : tie.Need-same-length-3
+same-length-3 c = search needs
+
+same-length-4 : tie.Need-same-length-4
+same-length-4 c = search needs
+
+returns-3 : tie.Need-returns-3
+unfolding izr-tx-entered
+returns-3 c =
+    let e = c .before .before .before .before .before .before .before .before .before .before .before .before .before .before .before in
+    let a = start e .args in
+    let call = c .before .before .before .before .before .before .before .before .tx-entered in
+    let same = ap₂ (λ (s : State) (i : List ℕ). enter-call base s (now (a .pending)) i (record { 0 = a .rate }) (record { 0 = a .height })) (c .before .before .before .before .before .before .before .before .before .before .before .state-in .ensures) (c .before .before .before .before .before .before .before .before .before .before .before .before .before .id-in .ensures) in
+    fits _ _ _ _ _ (both _ _ (held e) (eq-eqb _ _ (c .before .before .before .before .before .before .before .before .before .before .before .before .before .before .if2 .left))) _ (tells (now (a .state)) _ _ _ _ (call .ensures ∙ same) _ _ (c .enter-number .ensures) (c .before .before .before .put-state .ensures))
+
+pub izr-tx-entered-spec : {M : Type 1} → statement M
+izr-tx-entered-spec =
+    tie.close
+    (tie.spec
+    holds-state-requires
+    same-length
+    returns
+    same-length-2
+    returns-2
+    id-in-requires
+    state-in-requires
+    tx-entered-requires
+    put-state-requires
+    enter-number-requires
+    same-length-3
+    same-length-4
+    returns-3)

@@ -1,0 +1,34 @@
+-- `izrughem::state::holds_state` meets its contract. Assumes nothing.
+use mathlib.Core.Path.{sym, _∙_}
+use borrow.Author.Tests.{lt-leb, le-leb}
+use borrow.Author.Needs.{needs}
+use Rattle.izrughem.specs.Words.{holds-state}
+use Rattle.izrughem.proofs.state.holds_state.Statement.{statement}
+use Rattle.izrughem.proofs.state.holds_state.Tie as tie
+
+returns : tie.Need-returns
+unfolding holds-state
+returns c = sym (rw (lt-leb 4 _ (c .if1 .taken)))
+
+shared-slice-read-flag : tie.Need-shared-slice-read-flag
+shared-slice-read-flag c = search needs
+
+shared-slice-read-height : tie.Need-shared-slice-read-height
+shared-slice-read-height c = search needs
+
+holds-last-requires : tie.Need-holds-last-requires
+holds-last-requires c κs = search needs
+
+returns-2 : tie.Need-returns-2
+unfolding holds-state
+returns-2 c = let e = c .before .before .before in c .holds-last .ensures ∙ sym (rw (le-leb 4 _ (e .if1 .left)))
+
+pub holds-state-spec : {M : Type 1} → statement M
+holds-state-spec =
+    tie.close
+    (tie.spec
+    returns
+    shared-slice-read-flag
+    shared-slice-read-height
+    holds-last-requires
+    returns-2)

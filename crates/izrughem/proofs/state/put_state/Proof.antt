@@ -1,0 +1,47 @@
+-- `izrughem::state::put_state` meets its contract. Assumes nothing.
+use denote.Ref.{now}
+use native.Mathlib.Omega.{arith}
+use lib.ListN.{length-set}
+use borrow.Author.Needs.{needs}
+use Rattle.izrughem.proofs.Words.{stored}
+use Rattle.izrughem.proofs.state.put_state.Statement.{statement}
+use Rattle.izrughem.proofs.state.put_state.Tie as tie
+
+flag-of-requires : tie.Need-flag-of-requires
+flag-of-requires c κs = search needs
+
+slice-write-words : tie.Need-slice-write-words
+slice-write-words c = search needs
+
+height-of-requires : tie.Need-height-of-requires
+height-of-requires c κs = search needs
+
+slice-write-words-2 : tie.Need-slice-write-words-2
+slice-write-words-2 c = simp length-set (omega arith)
+
+slice-write-words-3 : tie.Need-slice-write-words-3
+slice-write-words-3 c = simp length-set (omega arith)
+
+slice-write-words-4 : tie.Need-slice-write-words-4
+slice-write-words-4 c = search needs
+
+same-length : tie.Need-same-length
+same-length c = search needs
+
+returns : tie.Need-returns
+returns c =
+    let s = c .before .before .before in
+    stored (s .args .s) (now (s .args .words)) _ _ (s .pre) (c .before .flag-of .ensures) (c .height-of .ensures)
+
+pub put-state-spec : {M : Type 1} → statement M
+put-state-spec =
+    tie.close
+    (tie.spec
+    flag-of-requires
+    slice-write-words
+    height-of-requires
+    slice-write-words-2
+    slice-write-words-3
+    slice-write-words-4
+    same-length
+    returns)

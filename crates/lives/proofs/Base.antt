@@ -1,0 +1,21 @@
+-- The promises for the base board and version 1 of the file. Assumes nothing.
+use Rattle.rules.specs.Board.{base}
+use Rattle.rules.proofs.Boards.{base-lawful}
+use Rattle.floats.proofs.Count.{base-factor}
+use Rattle.format.specs.File.{version-1}
+use Rattle.lives.specs.Lives.{AsidePromise, LifePromise}
+use Rattle.lives.specs.Contracts.{CodePromise}
+use Rattle.lives.proofs.Lives.{aside-promise, life-promise}
+use Rattle.lives.proofs.Link.{code-promise}
+
+-- what changes nothing
+pub asides : AsidePromise version-1 base
+asides = aside-promise version-1 base
+
+-- demand 3 in every life
+pub lives : LifePromise version-1 base
+lives = life-promise version-1 base base-lawful base-factor
+
+-- and of whatever meets the contracts
+pub code : CodePromise version-1 base
+code = code-promise version-1 base base-lawful base-factor

@@ -1,0 +1,122 @@
+-- In the life of a caller the calls that change nothing change nothing, and a run that began with a fresh start is a run of crate `meaning`, whatever
+-- stands between its calls. Assumes nothing.
+use mathlib.Core.Path.{_≡_, refl, sym, ap, _∙_, subst}
+use mathlib.Core.Bool.{Bool, true, false, not, _&&_, cond, true≢false}
+use mathlib.Core.List.{List, [], _∷_}
+use Prim.Native.Nat.{ℕ}
+use lib.Dec.{ltb, eqb}
+use lib.ListN.{length}
+use Rattle.kinds.specs.declared.State.{State}
+use Rattle.kinds.specs.Answers.{done, damaged, short-output}
+use Rattle.rules.specs.Board.{Board, Lawful}
+use Rattle.rules.specs.Estimator.{fresh}
+use Rattle.rules.specs.Memory.{Lent, enough, sound, view, state-of}
+use Rattle.rules.specs.Calls.{Outcome, outcome, refused, accepted, start-call}
+use Rattle.rules.proofs.Refusals.{DoneOrAsGiven, is-done, as-given, start-refused}
+use Rattle.floats.proofs.Count.{Factor}
+use Rattle.format.specs.File.{Version, history-of}
+use Rattle.format.specs.Calls.{Output, write-call, read-call}
+use Rattle.format.proofs.Refusals.{read-refused}
+use Rattle.meaning.specs.Runs.{Rising, singly, Call, started}
+use Rattle.meaning.proofs.Leading.{Comes, comes-start, comes-after}
+use Rattle.meaning.proofs.Meaning.{meant}
+use Rattle.meaning.proofs.Answered.{answers-of}
+use Rattle.meaning.proofs.Success.{success}
+use Rattle.lives.specs.Lives.{Ask, start, change, estimate, write, read, Life, goes-on, begun, next, lives, TypedAsk, TypedAsks, Aside, AsidePromise, Lived, LifePromise}
+
+-- ---- what changes nothing
+
+-- a refused fresh start or reading gives back the memory, and the run keeps its state
+same-life : (f : Bool) (s : State) (o : Outcome Lent) (y : Life) → DoneOrAsGiven s (y .held .memory) o → eqb (o .answer .number) 0 ≡ false → begun f o y ≡ y
+unfolding begun
+same-life f s o y (is-done h) e = absurd (true≢false (sym (ap (λ (n : ℕ). eqb n 0) h) ∙ e))
+same-life f s o y (as-given a) e = rw e
+
+-- a write hands back the state it was given
+write-state : (v : Version) (k : Board) (s : State) (l : Lent) (out : List ℕ) → write-call v k s l out .state ≡ s
+unfolding write-call
+write-state v k s l out = go (not (sound k s l)) (ltb (length out) (length file)) _ _ _
+  where
+    file : List ℕ
+    file = history-of v (view k s l)
+
+    go : (b c : Bool) (x y z : Output) → cond b (refused damaged s x) (cond c (refused (short-output (length file)) s y) (outcome done s z)) .state ≡ s
+    go true c x y z = refl
+    go false true x y z = refl
+    go false false x y z = refl
+
+pub aside-promise : (v : Version) (k : Board) → AsidePromise v k
+unfolding AsidePromise Aside next
+aside-promise v k start y e = same-life _ _ _ y (start-refused k (y .held .memory)) e
+aside-promise v k (change c) y e = absurd e
+aside-promise v k (estimate target) y e = refl
+aside-promise v k (write out) y e = ap (λ (s : State). goes-on y s (y .held .memory)) (write-state v k (y .held .state) (y .held .memory) out)
+aside-promise v k (read file) y e = same-life _ _ _ y (read-refused v k (y .held .memory) file) e
+
+-- ---- which run stands
+
+-- of a run that did not begin with a fresh start nothing is said; one that did is a run of crate `meaning`
+data Known (k : Board) (y : Life) : Type 0 where
+  other : y .is-fresh ≡ false → Known k y
+  known : (m : Lent) → Comes k m (y .held) → Known k y
+
+start-is-done : (k : Board) (m : Lent) → eqb (start-call k m .answer .number) 0 ≡ true → start-call k m .answer ≡ done
+unfolding start-call
+start-is-done k m e = go (enough (m .confirmed) && enough (m .resolved)) e
+  where
+    go : (b : Bool) → eqb (cond b (accepted k fresh m) (refused damaged (state-of fresh) m) .answer .number) 0 ≡ true → cond b (accepted k fresh m) (refused damaged (state-of fresh) m) .answer ≡ done
+    go true e = refl
+    go false e = absurd (true≢false (sym e))
+
+module _ (v : Version) (k : Board) (law : Lawful k) where
+  known-start : (y : Life) → Known k y → Known k (next v k start y)
+  unfolding next begun started AsidePromise Aside
+  known-start y n = go (eqb (start-call k m .answer .number) 0) refl
+    where
+      m : Lent
+      m = y .held .memory
+
+      go : (b : Bool) → eqb (start-call k m .answer .number) 0 ≡ b → Known k (next v k start y)
+      go true e = rw e (known m (comes-start k m (start-is-done k m e)))
+      go false e = subst (Known k) (sym (aside-promise v k start y e)) n
+
+  known-read : (file : List ℕ) (y : Life) → Known k y → Known k (next v k (read file) y)
+  unfolding next begun AsidePromise Aside
+  known-read file y n = go (eqb (read-call v k m file .answer .number) 0) refl
+    where
+      m : Lent
+      m = y .held .memory
+
+      go : (b : Bool) → eqb (read-call v k m file .answer .number) 0 ≡ b → Known k (next v k (read file) y)
+      go true e = rw e (other refl)
+      go false e = subst (Known k) (sym (aside-promise v k (read file) y e)) n
+
+  known-change : (c : Call) (y : Life) → TypedAsk (change c) → Known k y → Known k (next v k (change c) y)
+  unfolding next TypedAsk
+  known-change c y t (other e) = other e
+  known-change c y t (known m x) = known m (comes-after k law m (y .held) x c t)
+
+  known-next : (q : Ask) (y : Life) → TypedAsk q → Known k y → Known k (next v k q y)
+  unfolding AsidePromise Aside
+  known-next start y t n = known-start y n
+  known-next (change c) y t n = known-change c y t n
+  known-next (estimate target) y t n = subst (Known k) (sym (aside-promise v k (estimate target) y tt)) n
+  known-next (write out) y t n = subst (Known k) (sym (aside-promise v k (write out) y tt)) n
+  known-next (read file) y t n = known-read file y n
+
+  known-lives : (qs : List Ask) (y : Life) → TypedAsks qs → Known k y → Known k (lives v k qs y)
+  unfolding lives TypedAsks
+  known-lives [] y t n = n
+  known-lives (q ∷ qs) y t n = known-lives qs (next v k q y) (t .1) (known-next q y (t .0) n)
+
+  lived : Factor (k .decay) → (y : Life) → Known k y → y .is-fresh ≡ true → Rising (y .held .log) → Lived k (y .held)
+  lived d y (other e) f r = absurd (true≢false (sym f ∙ e))
+  lived d y (known m c) f r = record {
+    meant = meant k law m (y .held) c r;
+    answered = answers-of k law d m (y .held) c r;
+    success = success k law d (singly (y .held .log)) (y .held) (meant k law m (y .held) c r);
+  }
+
+  pub life-promise : Factor (k .decay) → LifePromise v k
+  unfolding LifePromise
+  life-promise d m e qs t f r = lived d (lives v k qs m) (known-lives qs m t (other e)) f r
