@@ -19,7 +19,7 @@ use Rattle.counts.specs.Scan.{estimated}
 
 -- none or a rate, as the enum's case and as the document's answer
 same-answer : (o : Option ℕ) → estimate-answer (estimated o) ≡ rate-answer o
-unfolding estimated estimate-answer rate-answer
+unfolding estimated rate-answer
 same-answer none = refl
 same-answer (some r) = refl
 

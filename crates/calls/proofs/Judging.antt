@@ -34,7 +34,6 @@ as-refused {s = s} {l = l} (as-given b) a q n = ap (λ (c : Answer). outcome c s
 
 -- each answer but Done, which is the enum's case 0, has a number of its own
 not-done : (a : BlockAnswer) → OneOf (1 ∷ 2 ∷ 3 ∷ 4 ∷ []) (tagOf the-type a) → block-answer a .number ≡ 0 → ⊥
-unfolding block-answer
 not-done BlockAnswer.Done h e = ⊎-elim (λ o. omega arith) (⊎-elim (λ o. omega arith) (⊎-elim (λ o. omega arith) (λ o. omega arith))) h
 not-done BlockAnswer.Damaged h e = omega arith
 not-done BlockAnswer.BadList h e = omega arith

@@ -9,7 +9,8 @@ ghost use Prim.Native.Nat.{_+_, _≤_};
 ghost use Rattle.kinds.specs.Answers.{done, block-answer};
 ghost use Rattle.rules.specs.Board.{board-of};
 ghost use Rattle.rules.specs.Estimator.{advances, block-connected};
-ghost use Rattle.rules.specs.Memory.{lent, view, confirmed-capacity};
+ghost use Rattle.rules.specs.Memory.{view, confirmed-capacity};
+ghost use Rattle.rules.specs.Slices.{given, before, after};
 ghost use Rattle.rules.specs.Calls.{outcome, accepted, gap, ids-of, pending-listings, block-call};
 ghost use Rattle.ready.specs.Ready.{Ready};
 
@@ -48,7 +49,7 @@ pub(crate) fn judge_block(
     height: Height,
     on: Horizon,
 ) -> BlockAnswer
-    ensures { λ r. ⌜ block-answer r ≡ block-call (board-of on) state (lent (now (confirmed .entry)) (now (resolved .entry)) (now (pending .entry)) (now (recent .entry))) (now (ids .entry)) height .answer ⌝ }
+    ensures { λ r. ⌜ block-answer r ≡ block-call (board-of on) state (before confirmed resolved pending recent) (now (ids .entry)) height .answer ⌝ }
 {
     if !memory::judge_memory(state, confirmed, resolved, pending, recent, on) {
         return BlockAnswer::Damaged;
@@ -80,12 +81,12 @@ pub(crate) fn connect(
     height: Height,
     on: Horizon,
 ) -> State
-    requires { ⌜ Ready (board-of on) state (lent (now confirmed) (now resolved) (now pending) (now recent)) ⌝ }
-    requires { ⌜ state .recent + pending-listings (board-of on) state (lent (now confirmed) (now resolved) (now pending) (now recent)) (ids-of (now ids)) ≤ confirmed-capacity (now recent) ⌝ }
+    requires { ⌜ Ready (board-of on) state (given confirmed resolved pending recent) ⌝ }
+    requires { ⌜ state .recent + pending-listings (board-of on) state (given confirmed resolved pending recent) (ids-of (now ids)) ≤ confirmed-capacity (now recent) ⌝ }
     ensures { λ r. ⌜
-        outcome done r (lent (now (confirmed .exit)) (now (resolved .exit)) (now (pending .exit)) (now (recent .exit)))
-        ≡ accepted (board-of on) (block-connected (board-of on) (ids-of (now (ids .entry))) (height .0) (view (board-of on) state (lent (now (confirmed .entry)) (now (resolved .entry)) (now (pending .entry)) (now (recent .entry)))))
-        (lent (now (confirmed .entry)) (now (resolved .entry)) (now (pending .entry)) (now (recent .entry))) ⌝ }
+        outcome done r (after confirmed resolved pending recent)
+        ≡ accepted (board-of on) (block-connected (board-of on) (ids-of (now (ids .entry))) (height .0) (view (board-of on) state (before confirmed resolved pending recent)))
+        (before confirmed resolved pending recent) ⌝ }
 {
     let last = state.last;
     let skipped = heights::skip_heights(state, confirmed, resolved, pending, recent, height, on);

@@ -36,7 +36,7 @@ use table::insert_pending;
 ghost use mathlib.Core.Path.{_≡_};
 ghost use Rattle.kinds.specs.Answers.{start-answer, enter-answer, leave-answer, block-answer, estimate-answer};
 ghost use Rattle.rules.specs.Board.{board-of};
-ghost use Rattle.rules.specs.Memory.{lent};
+ghost use Rattle.rules.specs.Slices.{before, after};
 ghost use Rattle.rules.specs.Calls.{outcome, start-call, enter-call, leave-call, block-call, estimate-call};
 
 // A fresh start: no count, no record, no last height.
@@ -48,8 +48,8 @@ pub fn new(
     on: Horizon,
 ) -> Started
     ensures { λ r. ⌜
-        outcome (start-answer (r .answer)) (r .state) (lent (now (confirmed .exit)) (now (resolved .exit)) (now (pending .exit)) (now (recent .exit)))
-        ≡ start-call (board-of on) (lent (now (confirmed .entry)) (now (resolved .entry)) (now (pending .entry)) (now (recent .entry))) ⌝ }
+        outcome (start-answer (r .answer)) (r .state) (after confirmed resolved pending recent)
+        ≡ start-call (board-of on) (before confirmed resolved pending recent) ⌝ }
 {
     let state = State {
         last: Last::Nothing,
@@ -166,8 +166,8 @@ pub fn block_connected(
     on: Horizon,
 ) -> Connected
     ensures { λ r. ⌜
-        outcome (block-answer (r .answer)) (r .state) (lent (now (confirmed .exit)) (now (resolved .exit)) (now (pending .exit)) (now (recent .exit)))
-        ≡ block-call (board-of on) state (lent (now (confirmed .entry)) (now (resolved .entry)) (now (pending .entry)) (now (recent .entry))) (now (ids .entry)) height ⌝ }
+        outcome (block-answer (r .answer)) (r .state) (after confirmed resolved pending recent)
+        ≡ block-call (board-of on) state (before confirmed resolved pending recent) (now (ids .entry)) height ⌝ }
 {
     let answer = judge_block(state, confirmed, resolved, pending, recent, ids, height, on);
     let BlockAnswer::Done = answer else {

@@ -16,7 +16,8 @@ ghost use Rattle.rules.specs.Lists.{count};
 ghost use Rattle.rules.specs.Records.{sound-table};
 ghost use Rattle.rules.specs.Board.{board-of, pending-most};
 ghost use Rattle.rules.specs.Estimator.{is-pending, confirm-all};
-ghost use Rattle.rules.specs.Memory.{lent, view, pending-records, confirmed-capacity};
+ghost use Rattle.rules.specs.Memory.{view, pending-records, confirmed-capacity};
+ghost use Rattle.rules.specs.Slices.{given, before, after};
 ghost use Rattle.rules.specs.Calls.{outcome, accepted, ids-of, pending-listings};
 ghost use Rattle.ready.specs.Ready.{Ready};
 
@@ -48,12 +49,12 @@ pub fn confirm_all(
     h: Height,
     on: Horizon,
 ) -> State
-    requires { ⌜ Ready (board-of on) state (lent (now confirmed) (now resolved) (now pending) (now recent)) ⌝ }
-    requires { ⌜ state .recent + pending-listings (board-of on) state (lent (now confirmed) (now resolved) (now pending) (now recent)) (ids-of (now ids)) ≤ confirmed-capacity (now recent) ⌝ }
+    requires { ⌜ Ready (board-of on) state (given confirmed resolved pending recent) ⌝ }
+    requires { ⌜ state .recent + pending-listings (board-of on) state (given confirmed resolved pending recent) (ids-of (now ids)) ≤ confirmed-capacity (now recent) ⌝ }
     ensures { λ r. ⌜
-        outcome done r (lent (now (confirmed .exit)) (now (resolved .exit)) (now (pending .exit)) (now (recent .exit)))
-        ≡ accepted (board-of on) (confirm-all (board-of on) (h .0) (ids-of (now (ids .entry))) (view (board-of on) state (lent (now (confirmed .entry)) (now (resolved .entry)) (now (pending .entry)) (now (recent .entry)))))
-        (lent (now (confirmed .entry)) (now (resolved .entry)) (now (pending .entry)) (now (recent .entry))) ⌝ }
+        outcome done r (after confirmed resolved pending recent)
+        ≡ accepted (board-of on) (confirm-all (board-of on) (h .0) (ids-of (now (ids .entry))) (view (board-of on) state (before confirmed resolved pending recent)))
+        (before confirmed resolved pending recent) ⌝ }
 {
     let mut s = state;
     let mut at: usize = 0;

@@ -17,7 +17,8 @@ ghost use Rattle.rules.specs.Lists.{bit};
 ghost use Rattle.rules.specs.Counts.{gain};
 ghost use Rattle.rules.specs.Board.{board-of};
 ghost use Rattle.rules.specs.Estimator.{is-pending, find, wait, record-confirmation, confirm};
-ghost use Rattle.rules.specs.Memory.{lent, view, pending-records, confirmed-capacity};
+ghost use Rattle.rules.specs.Memory.{view, pending-records, confirmed-capacity};
+ghost use Rattle.rules.specs.Slices.{given, before, after};
 ghost use Rattle.rules.specs.Calls.{outcome, accepted};
 ghost use Rattle.ready.specs.Ready.{Ready};
 
@@ -57,15 +58,15 @@ fn record_confirmation(
     h: Height,
     on: Horizon,
 ) -> State
-    requires { ⌜ Ready (board-of on) state (lent (now confirmed) (now resolved) (now pending) (now recent)) ⌝ }
+    requires { ⌜ Ready (board-of on) state (given confirmed resolved pending recent) ⌝ }
     requires { ⌜ state .recent + bit (is-pending (now id) (pending-records (board-of on) (state .pending) (now pending))) ≤ confirmed-capacity (now recent) ⌝ }
     requires { ⌜ length (now id) ≡ 32 ⌝ }
     ensures { λ r. ⌜
-        outcome done r (lent (now (confirmed .exit)) (now (resolved .exit)) (now (pending .exit)) (now (recent .exit)))
+        outcome done r (after confirmed resolved pending recent)
         ≡ accepted (board-of on)
         (record-confirmation (board-of on) (h .0) (now (id .entry)) (find (now (id .entry)) (pending-records (board-of on) (state .pending) (now (pending .entry))))
-        (view (board-of on) state (lent (now (confirmed .entry)) (now (resolved .entry)) (now (pending .entry)) (now (recent .entry)))))
-        (lent (now (confirmed .entry)) (now (resolved .entry)) (now (pending .entry)) (now (recent .entry))) ⌝ }
+        (view (board-of on) state (before confirmed resolved pending recent)))
+        (before confirmed resolved pending recent) ⌝ }
 {
     let last = state.last;
     let used = state.pending;
@@ -103,14 +104,14 @@ pub fn confirm(
     h: Height,
     on: Horizon,
 ) -> State
-    requires { ⌜ Ready (board-of on) state (lent (now confirmed) (now resolved) (now pending) (now recent)) ⌝ }
+    requires { ⌜ Ready (board-of on) state (given confirmed resolved pending recent) ⌝ }
     requires { ⌜ state .recent + bit (is-pending (now id) (pending-records (board-of on) (state .pending) (now pending))) ≤ confirmed-capacity (now recent) ⌝ }
     requires { ⌜ length (now id) ≡ 32 ⌝ }
     ensures { λ r. ⌜
-        outcome done r (lent (now (confirmed .exit)) (now (resolved .exit)) (now (pending .exit)) (now (recent .exit)))
+        outcome done r (after confirmed resolved pending recent)
         ≡ accepted (board-of on)
-        (confirm (board-of on) (h .0) (now (id .entry)) (view (board-of on) state (lent (now (confirmed .entry)) (now (resolved .entry)) (now (pending .entry)) (now (recent .entry)))))
-        (lent (now (confirmed .entry)) (now (resolved .entry)) (now (pending .entry)) (now (recent .entry))) ⌝ }
+        (confirm (board-of on) (h .0) (now (id .entry)) (view (board-of on) state (before confirmed resolved pending recent)))
+        (before confirmed resolved pending recent) ⌝ }
 {
     let last = state.last;
     let used = state.pending;

@@ -16,7 +16,7 @@ ghost use mathlib.Core.Path.{_≡_};
 ghost use Rattle.kinds.specs.Answers.{start-answer, enter-answer, leave-answer, block-answer, estimate-answer, write-answer, read-answer};
 ghost use Rattle.rules.specs.Ladder.{bucket-index};
 ghost use Rattle.rules.specs.Board.{base};
-ghost use Rattle.rules.specs.Memory.{lent};
+ghost use Rattle.rules.specs.Slices.{before, after};
 ghost use Rattle.rules.specs.Calls.{outcome, start-call, enter-call, leave-call, block-call, estimate-call};
 ghost use Rattle.format.specs.File.{version-1};
 ghost use Rattle.format.specs.Calls.{output, write-call, read-call};
@@ -29,8 +29,8 @@ pub fn new(
     recent: &mut [u8],
 ) -> Started
     ensures { λ r. ⌜
-        outcome (start-answer (r .answer)) (r .state) (lent (now (confirmed .exit)) (now (resolved .exit)) (now (pending .exit)) (now (recent .exit)))
-        ≡ start-call base (lent (now (confirmed .entry)) (now (resolved .entry)) (now (pending .entry)) (now (recent .entry))) ⌝ }
+        outcome (start-answer (r .answer)) (r .state) (after confirmed resolved pending recent)
+        ≡ start-call base (before confirmed resolved pending recent) ⌝ }
 {
     calls::new(confirmed, resolved, pending, recent, Horizon::Base)
 }
@@ -66,8 +66,8 @@ pub fn block_connected(
     height: Height,
 ) -> Connected
     ensures { λ r. ⌜
-        outcome (block-answer (r .answer)) (r .state) (lent (now (confirmed .exit)) (now (resolved .exit)) (now (pending .exit)) (now (recent .exit)))
-        ≡ block-call base state (lent (now (confirmed .entry)) (now (resolved .entry)) (now (pending .entry)) (now (recent .entry))) (now (ids .entry)) height ⌝ }
+        outcome (block-answer (r .answer)) (r .state) (after confirmed resolved pending recent)
+        ≡ block-call base state (before confirmed resolved pending recent) (now (ids .entry)) height ⌝ }
 {
     calls::block_connected(
         state,
@@ -106,7 +106,7 @@ pub fn to_history_bytes(
 ) -> Written
     ensures { λ r. ⌜
         outcome (write-answer (r .answer)) (r .state) (output (r .len) (now (out .exit)))
-        ≡ write-call version-1 base state (lent (now (confirmed .entry)) (now (resolved .entry)) (now (pending .entry)) (now (recent .entry))) (now (out .entry)) ⌝ }
+        ≡ write-call version-1 base state (before confirmed resolved pending recent) (now (out .entry)) ⌝ }
 {
     history::to_history_bytes(state, confirmed, resolved, pending, recent, out)
 }
@@ -120,8 +120,8 @@ pub fn from_history_bytes(
     recent: &mut [u8],
 ) -> Reading
     ensures { λ r. ⌜
-        outcome (read-answer (r .answer)) (r .state) (lent (now (confirmed .exit)) (now (resolved .exit)) (now (pending .exit)) (now (recent .exit)))
-        ≡ read-call version-1 base (lent (now (confirmed .entry)) (now (resolved .entry)) (now (pending .entry)) (now (recent .entry))) (now (bytes .entry)) ⌝ }
+        outcome (read-answer (r .answer)) (r .state) (after confirmed resolved pending recent)
+        ≡ read-call version-1 base (before confirmed resolved pending recent) (now (bytes .entry)) ⌝ }
 {
     history::from_history_bytes(bytes, confirmed, resolved, pending, recent)
 }

@@ -11,7 +11,8 @@ ghost use Prim.Native.Nat.{_+_, _^_, _<_};
 ghost use Rattle.kinds.specs.Answers.{done};
 ghost use Rattle.rules.specs.Board.{board-of};
 ghost use Rattle.rules.specs.Estimator.{advance-height, advance-heights, skip-heights};
-ghost use Rattle.rules.specs.Memory.{lent, view};
+ghost use Rattle.rules.specs.Memory.{view};
+ghost use Rattle.rules.specs.Slices.{given, before, after};
 ghost use Rattle.rules.specs.Calls.{outcome, accepted};
 ghost use Rattle.ready.specs.Ready.{Ready};
 
@@ -25,10 +26,10 @@ pub fn advance_height(
     h: Height,
     on: Horizon,
 ) -> State
-    requires { ⌜ Ready (board-of on) state (lent (now confirmed) (now resolved) (now pending) (now recent)) ⌝ }
+    requires { ⌜ Ready (board-of on) state (given confirmed resolved pending recent) ⌝ }
     ensures { λ r. ⌜
-        outcome done r (lent (now (confirmed .exit)) (now (resolved .exit)) (now (pending .exit)) (now (recent .exit)))
-        ≡ accepted (board-of on) (advance-height (board-of on) (h .0) (view (board-of on) state (lent (now (confirmed .entry)) (now (resolved .entry)) (now (pending .entry)) (now (recent .entry))))) (lent (now (confirmed .entry)) (now (resolved .entry)) (now (pending .entry)) (now (recent .entry))) ⌝ }
+        outcome done r (after confirmed resolved pending recent)
+        ≡ accepted (board-of on) (advance-height (board-of on) (h .0) (view (board-of on) state (before confirmed resolved pending recent))) (before confirmed resolved pending recent) ⌝ }
 {
     let used = state.pending;
     let kept = state.recent;
@@ -53,11 +54,11 @@ fn advance_heights(
     n: u32,
     on: Horizon,
 ) -> State
-    requires { ⌜ Ready (board-of on) state (lent (now confirmed) (now resolved) (now pending) (now recent)) ⌝ }
+    requires { ⌜ Ready (board-of on) state (given confirmed resolved pending recent) ⌝ }
     requires { ⌜ low .0 + n < 2 ^ 32 ⌝ }
     ensures { λ r. ⌜
-        outcome done r (lent (now (confirmed .exit)) (now (resolved .exit)) (now (pending .exit)) (now (recent .exit)))
-        ≡ accepted (board-of on) (advance-heights (board-of on) (low .0) n (view (board-of on) state (lent (now (confirmed .entry)) (now (resolved .entry)) (now (pending .entry)) (now (recent .entry))))) (lent (now (confirmed .entry)) (now (resolved .entry)) (now (pending .entry)) (now (recent .entry))) ⌝ }
+        outcome done r (after confirmed resolved pending recent)
+        ≡ accepted (board-of on) (advance-heights (board-of on) (low .0) n (view (board-of on) state (before confirmed resolved pending recent))) (before confirmed resolved pending recent) ⌝ }
 {
     let from = low.0;
     let mut s = state;
@@ -87,10 +88,10 @@ pub fn skip_heights(
     h: Height,
     on: Horizon,
 ) -> State
-    requires { ⌜ Ready (board-of on) state (lent (now confirmed) (now resolved) (now pending) (now recent)) ⌝ }
+    requires { ⌜ Ready (board-of on) state (given confirmed resolved pending recent) ⌝ }
     ensures { λ r. ⌜
-        outcome done r (lent (now (confirmed .exit)) (now (resolved .exit)) (now (pending .exit)) (now (recent .exit)))
-        ≡ accepted (board-of on) (skip-heights (board-of on) (state .last) (h .0) (view (board-of on) state (lent (now (confirmed .entry)) (now (resolved .entry)) (now (pending .entry)) (now (recent .entry))))) (lent (now (confirmed .entry)) (now (resolved .entry)) (now (pending .entry)) (now (recent .entry))) ⌝ }
+        outcome done r (after confirmed resolved pending recent)
+        ≡ accepted (board-of on) (skip-heights (board-of on) (state .last) (h .0) (view (board-of on) state (before confirmed resolved pending recent))) (before confirmed resolved pending recent) ⌝ }
 {
     let last = state.last;
     let Last::At(low) = last else {

@@ -45,11 +45,11 @@ module _ (s : List ℕ) (last : Last) (n m : ℕ) (l : Lent) where
 
   module _ (r : Reading) (e : Refusing r ReadAnswer.NoRoom) where
     pub no-pending-room : pending-capacity base (l .pending) < n → outcome (read-answer (r .answer)) (r .state) l ≡ taken-in base l (good (filed last n m s))
-    unfolding taken-in has-room read-answer
+    unfolding taken-in has-room
     no-pending-room h = refusing r ReadAnswer.NoRoom l e ∙ sym (rw (pending-many, lt-leb n (pending-capacity base (l .pending)) h))
 
     pub no-recent-room : n ≤ pending-capacity base (l .pending) → confirmed-capacity (l .recent) < m → outcome (read-answer (r .answer)) (r .state) l ≡ taken-in base l (good (filed last n m s))
-    unfolding taken-in has-room read-answer
+    unfolding taken-in has-room
     no-recent-room g h =
         refusing r ReadAnswer.NoRoom l e
         ∙ sym (rw (pending-many, recent-many, le-leb n (pending-capacity base (l .pending)) g, lt-leb m (confirmed-capacity (l .recent)) h))
@@ -68,11 +68,11 @@ read-as c s h e f = sym f ∙ ap (λ (x : Header). said x (c .pending) (c .recen
 module _ (l : Lent) (s : List ℕ) where
   module _ (r : Reading) (e : Refusing r ReadAnswer.Damaged) where
     pub few-confirmed : length (l .confirmed) < places-of-counts → outcome (read-answer (r .answer)) (r .state) l ≡ read-call version-1 base l s
-    unfolding read-call read-answer
+    unfolding read-call
     few-confirmed h = refusing r ReadAnswer.Damaged l e ∙ sym (rw (lt-leb places-of-counts (length (l .confirmed)) h))
 
     pub few-resolved : places-of-counts ≤ length (l .confirmed) → length (l .resolved) < places-of-counts → outcome (read-answer (r .answer)) (r .state) l ≡ read-call version-1 base l s
-    unfolding read-call read-answer
+    unfolding read-call
     few-resolved g h =
         refusing r ReadAnswer.Damaged l e ∙ sym (rw (le-leb places-of-counts (length (l .confirmed)) g, lt-leb places-of-counts (length (l .resolved)) h))
 

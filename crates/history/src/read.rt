@@ -16,7 +16,8 @@ ghost use Rattle.kinds.specs.Answers.{done, read-answer};
 ghost use Rattle.rules.specs.Board.{base};
 ghost use Rattle.rules.specs.Counts.{places-of-counts};
 ghost use Rattle.rules.specs.Estimator.{fresh};
-ghost use Rattle.rules.specs.Memory.{lent, state-of, pending-capacity, confirmed-capacity};
+ghost use Rattle.rules.specs.Memory.{state-of, pending-capacity, confirmed-capacity};
+ghost use Rattle.rules.specs.Slices.{before, after};
 ghost use Rattle.rules.specs.Calls.{outcome, accepted};
 ghost use Rattle.format.specs.Parts.{good};
 ghost use Rattle.format.specs.File.{version-1, read-history, restored};
@@ -56,8 +57,8 @@ fn store(
     requires { ⌜ (n ≤ most) × (most ≡ pending-capacity base (now pending)) ⌝ }
     requires { ⌜ (m ≤ more) × (more ≡ confirmed-capacity (now recent)) ⌝ }
     ensures { λ r. ⌜
-        outcome done r (lent (now (confirmed .exit)) (now (resolved .exit)) (now (pending .exit)) (now (recent .exit)))
-        ≡ accepted base (restored (filed last n m (now (bytes .entry)))) (lent (now (confirmed .entry)) (now (resolved .entry)) (now (pending .entry)) (now (recent .entry))) ⌝ }
+        outcome done r (after confirmed resolved pending recent)
+        ≡ accepted base (restored (filed last n m (now (bytes .entry)))) (before confirmed resolved pending recent) ⌝ }
 {
     let at = header_len(last);
     load_buckets(bytes, at, confirmed, resolved);
@@ -84,8 +85,8 @@ fn take_in(
     requires { ⌜ read-history version-1 (now bytes) ≡ good (filed last n m (now bytes)) ⌝ }
     requires { ⌜ (places-of-counts ≤ length (now confirmed)) × (places-of-counts ≤ length (now resolved)) ⌝ }
     ensures { λ r. ⌜
-        outcome (read-answer (r .answer)) (r .state) (lent (now (confirmed .exit)) (now (resolved .exit)) (now (pending .exit)) (now (recent .exit)))
-        ≡ taken-in base (lent (now (confirmed .entry)) (now (resolved .entry)) (now (pending .entry)) (now (recent .entry))) (good (filed last n m (now (bytes .entry)))) ⌝ }
+        outcome (read-answer (r .answer)) (r .state) (after confirmed resolved pending recent)
+        ≡ taken-in base (before confirmed resolved pending recent) (good (filed last n m (now (bytes .entry)))) ⌝ }
 {
     let most = table::capacity(pending, 44, 10000);
     if most < n {
@@ -122,8 +123,8 @@ pub fn from_history_bytes(
     recent: &mut [u8],
 ) -> Reading
     ensures { λ r. ⌜
-        outcome (read-answer (r .answer)) (r .state) (lent (now (confirmed .exit)) (now (resolved .exit)) (now (pending .exit)) (now (recent .exit)))
-        ≡ read-call version-1 base (lent (now (confirmed .entry)) (now (resolved .entry)) (now (pending .entry)) (now (recent .entry))) (now (bytes .entry)) ⌝ }
+        outcome (read-answer (r .answer)) (r .state) (after confirmed resolved pending recent)
+        ≡ read-call version-1 base (before confirmed resolved pending recent) (now (bytes .entry)) ⌝ }
 {
     if confirmed.len() < 3550 {
         return refused(ReadAnswer::Damaged);

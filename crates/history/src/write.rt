@@ -15,7 +15,8 @@ ghost use Prim.Native.Nat.{_≤_};
 ghost use lib.ListN.{length};
 ghost use lib.Seq.{sets};
 ghost use Rattle.kinds.specs.Answers.{write-answer};
-ghost use Rattle.rules.specs.Memory.{lent, sound, view};
+ghost use Rattle.rules.specs.Memory.{sound, view};
+ghost use Rattle.rules.specs.Slices.{given, before};
 ghost use Rattle.rules.specs.Calls.{outcome};
 ghost use Rattle.format.specs.File.{version-1, history-of, history-length};
 ghost use Rattle.format.specs.Calls.{output, write-call};
@@ -38,9 +39,9 @@ fn encode(
     recent: &[u8],
     out: &mut [u8],
 )
-    requires { ⌜ sound base s (lent (now confirmed) (now resolved) (now pending) (now recent)) ≡ true ⌝ }
+    requires { ⌜ sound base s (given confirmed resolved pending recent) ≡ true ⌝ }
     requires { ⌜ history-length version-1 (s .last) (s .pending) (s .recent) ≤ length (now out) ⌝ }
-    ensures { λ _. ⌜ now (out .exit) ≡ sets (now (out .entry)) 0 (history-of version-1 (view base s (lent (now (confirmed .entry)) (now (resolved .entry)) (now (pending .entry)) (now (recent .entry))))) ⌝ }
+    ensures { λ _. ⌜ now (out .exit) ≡ sets (now (out .entry)) 0 (history-of version-1 (view base s (before confirmed resolved pending recent))) ⌝ }
 {
     let last = s.last;
     let used = s.pending;
@@ -61,10 +62,10 @@ fn write_sound(
     recent: &[u8],
     out: &mut [u8],
 ) -> Written
-    requires { ⌜ sound base s (lent (now confirmed) (now resolved) (now pending) (now recent)) ≡ true ⌝ }
+    requires { ⌜ sound base s (given confirmed resolved pending recent) ≡ true ⌝ }
     ensures { λ r. ⌜
         outcome (write-answer (r .answer)) (r .state) (output (r .len) (now (out .exit)))
-        ≡ write-call version-1 base s (lent (now (confirmed .entry)) (now (resolved .entry)) (now (pending .entry)) (now (recent .entry))) (now (out .entry)) ⌝ }
+        ≡ write-call version-1 base s (before confirmed resolved pending recent) (now (out .entry)) ⌝ }
 {
     let last = s.last;
     let used = s.pending;
@@ -96,7 +97,7 @@ pub fn to_history_bytes(
 ) -> Written
     ensures { λ r. ⌜
         outcome (write-answer (r .answer)) (r .state) (output (r .len) (now (out .exit)))
-        ≡ write-call version-1 base s (lent (now (confirmed .entry)) (now (resolved .entry)) (now (pending .entry)) (now (recent .entry))) (now (out .entry)) ⌝ }
+        ≡ write-call version-1 base s (before confirmed resolved pending recent) (now (out .entry)) ⌝ }
 {
     if !judge_memory(s, confirmed, resolved, pending, recent, Horizon::Base) {
         return Written {

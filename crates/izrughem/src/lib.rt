@@ -23,7 +23,7 @@ use tell::tell_written;
 ghost use mathlib.Core.Path.{_≡_};
 ghost use mathlib.Core.List.{[]};
 ghost use Rattle.rules.specs.Ladder.{bucket-index};
-ghost use Rattle.rules.specs.Memory.{lent};
+ghost use Rattle.rules.specs.Slices.{before, after};
 ghost use Rattle.izrughem.specs.Calls.{seen, izr-new, izr-tx-entered, izr-tx-left, izr-block-connected, izr-estimate, izr-to-history-bytes, izr-from-history-bytes};
 
 // A fresh start.
@@ -36,8 +36,8 @@ pub extern "C" fn izr_new(
     state: &mut [u64],
 ) -> u32
     ensures { λ r. ⌜
-        seen r (now (state .exit)) [] (lent (now (confirmed .exit)) (now (resolved .exit)) (now (pending .exit)) (now (recent .exit)))
-        ≡ izr-new (now (state .entry)) (lent (now (confirmed .entry)) (now (resolved .entry)) (now (pending .entry)) (now (recent .entry))) ⌝ }
+        seen r (now (state .exit)) [] (after confirmed resolved pending recent)
+        ≡ izr-new (now (state .entry)) (before confirmed resolved pending recent) ⌝ }
 {
     if state.len() < 4 {
         return 1;
@@ -108,8 +108,8 @@ pub extern "C" fn izr_block_connected(
     height: u32,
 ) -> u32
     ensures { λ r. ⌜
-        seen r (now (state .exit)) [] (lent (now (confirmed .exit)) (now (resolved .exit)) (now (pending .exit)) (now (recent .exit)))
-        ≡ izr-block-connected (now (state .entry)) (lent (now (confirmed .entry)) (now (resolved .entry)) (now (pending .entry)) (now (recent .entry))) (now (ids .entry)) height ⌝ }
+        seen r (now (state .exit)) [] (after confirmed resolved pending recent)
+        ≡ izr-block-connected (now (state .entry)) (before confirmed resolved pending recent) (now (ids .entry)) height ⌝ }
 {
     if !holds_state(state) {
         return 1;
@@ -171,7 +171,7 @@ pub extern "C" fn izr_to_history_bytes(
 ) -> u32
     ensures { λ r. ⌜
         seen r (now (state .entry)) (now (carried .exit)) (now (out .exit))
-        ≡ izr-to-history-bytes (now (state .entry)) (lent (now (confirmed .entry)) (now (resolved .entry)) (now (pending .entry)) (now (recent .entry))) (now (out .entry)) (now (carried .entry)) ⌝ }
+        ≡ izr-to-history-bytes (now (state .entry)) (before confirmed resolved pending recent) (now (out .entry)) (now (carried .entry)) ⌝ }
 {
     if !holds_state(state) {
         return 1;
@@ -202,8 +202,8 @@ pub extern "C" fn izr_from_history_bytes(
     carried: &mut [u64],
 ) -> u32
     ensures { λ r. ⌜
-        seen r (now (state .exit)) (now (carried .exit)) (lent (now (confirmed .exit)) (now (resolved .exit)) (now (pending .exit)) (now (recent .exit)))
-        ≡ izr-from-history-bytes (now (bytes .entry)) (lent (now (confirmed .entry)) (now (resolved .entry)) (now (pending .entry)) (now (recent .entry))) (now (state .entry)) (now (carried .entry)) ⌝ }
+        seen r (now (state .exit)) (now (carried .exit)) (after confirmed resolved pending recent)
+        ≡ izr-from-history-bytes (now (bytes .entry)) (before confirmed resolved pending recent) (now (state .entry)) (now (carried .entry)) ⌝ }
 {
     if state.len() < 4 {
         return 1;

@@ -7,7 +7,8 @@ use kinds::Horizon;
 use kinds::State;
 ghost use mathlib.Core.Path.{_≡_};
 ghost use Rattle.rules.specs.Board.{board-of};
-ghost use Rattle.rules.specs.Memory.{lent, sound};
+ghost use Rattle.rules.specs.Memory.{sound};
+ghost use Rattle.rules.specs.Slices.{before};
 
 // Whether all of it is sound.
 pub fn judge_memory(
@@ -18,7 +19,7 @@ pub fn judge_memory(
     recent: &[u8],
     on: Horizon,
 ) -> bool
-    ensures { λ r. ⌜ r ≡ sound (board-of on) state (lent (now (confirmed .entry)) (now (resolved .entry)) (now (pending .entry)) (now (recent .entry))) ⌝ }
+    ensures { λ r. ⌜ r ≡ sound (board-of on) state (before confirmed resolved pending recent) ⌝ }
 {
     let used = state.pending;
     let kept = state.recent;

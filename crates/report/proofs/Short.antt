@@ -64,7 +64,7 @@ lines-short f h t (suc n) =
     simp length-append (omega arith)
 
 pub told-short : (a : ReadAnswer) (s : State) (f : ℕ → Text) → ((t : ℕ) → length (f t) ≤ 20) → length (joined (told (read-answer a) s f)) ≤ 2048
-unfolding told read-answer refusal name carried joined
+unfolding told refusal name carried joined
 told-short ReadAnswer.Done s f h = omega (arith, length-joined (state-lines s) (target-lines f 1 25), state-short s, lines-short f h 1 25)
 told-short ReadAnswer.Damaged s f h = omega arith
 told-short ReadAnswer.BadMagic s f h = omega arith

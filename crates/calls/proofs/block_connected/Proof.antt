@@ -22,7 +22,6 @@ start c = c .before .before .before .before .before .before .before .before .bef
 
 -- the block is judged Done
 is-done : (c : tie.After-enum-told) → let s = start (c .before .before) in done ≡ block-call (board-of (s .args .on)) (s .args .state) (given s) (now (s .args .ids)) (s .args .height) .answer
-unfolding block-answer
 is-done c = sym (ap block-answer (c .enum-told .given .1)) ∙ c .before .before .judge-block .ensures
 
 -- and what it leaves
@@ -75,7 +74,6 @@ same-length-8 : tie.Need-same-length-8
 same-length-8 c = search needs
 
 returns-2 : tie.Need-returns-2
-unfolding block-answer
 returns-2 c =
     let k = c .before .before .before .before .before .before .before .before in
     let d = k .before .before .before .before .before in

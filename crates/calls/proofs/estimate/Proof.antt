@@ -4,7 +4,6 @@ use mathlib.Core.Bool.{true}
 use native.Mathlib.Omega.{arith}
 use borrow.Author.Tests.{not-true, not-false}
 use denote.Ref.{now}
-use Rattle.kinds.specs.Answers.{estimate-answer}
 use Rattle.rules.specs.Board.{board-of}
 use Rattle.rules.specs.Memory.{sound-counts}
 use Rattle.calls.proofs.Columns.{column-within}
@@ -27,7 +26,6 @@ sound-counts-requires : tie.Need-sound-counts-requires
 sound-counts-requires c κs = search needs
 
 returns : tie.Need-returns
-unfolding estimate-answer
 returns c =
     let a = c .before .before .before .before .args in
     first-damaged (board-of (a .on)) (a .state) (now (a .confirmed)) (now (a .resolved)) (a .target) (sym (c .before .sound-counts .ensures) ∙ not-true _ (c .if1 .taken))
@@ -36,14 +34,12 @@ sound-counts-requires-2 : tie.Need-sound-counts-requires-2
 sound-counts-requires-2 c κs = search needs
 
 returns-2 : tie.Need-returns-2
-unfolding estimate-answer
 returns-2 c =
     let e = c .before .before in
     let a = start e .args in
     second-damaged (board-of (a .on)) (a .state) (now (a .confirmed)) (now (a .resolved)) (a .target) (confirmed-sound e) (sym (c .before .sound-counts2 .ensures) ∙ not-true _ (c .if2 .taken))
 
 returns-3 : tie.Need-returns-3
-unfolding estimate-answer
 returns-3 c =
     let e = c .before .before in
     let a = start (e .before .before) .args in

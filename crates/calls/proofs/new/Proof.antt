@@ -1,6 +1,5 @@
 -- `calls::new` meets its contract: each of its answers is the definition's, by the laws of `Starting`. Assumes nothing.
 use denote.Ref.{now}
-use Rattle.kinds.specs.Answers.{start-answer}
 use Rattle.rules.specs.Board.{board-of}
 use Rattle.rules.specs.Memory.{Lent, lent}
 use Rattle.calls.proofs.Starting.{start-few, start-fewer, start-done}
@@ -12,11 +11,9 @@ abbrev given : tie.Start → Lent
 given s = lent (now (s .args .confirmed)) (now (s .args .resolved)) (now (s .args .pending)) (now (s .args .recent))
 
 returns : tie.Need-returns
-unfolding start-answer
 returns c = let s = c .before .before .before .before .before in start-few (board-of (s .args .on)) (given s) (c .if1 .taken)
 
 returns-2 : tie.Need-returns-2
-unfolding start-answer
 returns-2 c = let s = c .before .before .before .before .before .before in start-fewer (board-of (s .args .on)) (given s) (c .before .if1 .left) (c .if2 .taken)
 
 clear-counts-requires : tie.Need-clear-counts-requires
@@ -47,7 +44,6 @@ same-length-4 : tie.Need-same-length-4
 same-length-4 c = search needs
 
 returns-3 : tie.Need-returns-3
-unfolding start-answer
 returns-3 c =
     let u = c .before .before in
     let v = c .before .before .before .before .before .before in

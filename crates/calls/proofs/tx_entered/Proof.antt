@@ -9,7 +9,6 @@ use denote.Ref.{now}
 use lib.Dec.{T}
 use lib.ListN.{length}
 use lib.Pow.{areBytes}
-use Rattle.kinds.specs.Answers.{enter-answer}
 use Rattle.rules.specs.Board.{Board, board-of, pending-most}
 use Rattle.rules.proofs.Boards.{board-lawful}
 use Rattle.rules.specs.Records.{capacity, id-of, records}
@@ -70,7 +69,6 @@ same-length : tie.Need-same-length
 same-length c = search needs
 
 returns : tie.Need-returns
-unfolding enter-answer
 returns c = let s = c .before .before .before .before in enter-damaged (board s) (board-lawful (s .args .on)) (given s) (sym (c .before .judge-pending .ensures) ∙ not-true _ (c .if1 .taken))
 
 record-size-requires : tie.Need-record-size-requires
@@ -97,7 +95,6 @@ same-length-2 : tie.Need-same-length-2
 same-length-2 c = search needs
 
 returns-2 : tie.Need-returns-2
-unfolding enter-answer
 returns-2 c =
     let g = c .before .before .before .before in
     let e = searched g in
@@ -124,7 +121,6 @@ same-length-3 : tie.Need-same-length-3
 same-length-3 c = search needs
 
 returns-3 : tie.Need-returns-3
-unfolding enter-answer
 returns-3 c =
     let e = c .before .before .before .before .before .before in
     let w = c .enum-told .given in
@@ -135,7 +131,6 @@ same-length-4 : tie.Need-same-length-4
 same-length-4 c = search needs
 
 returns-4 : tie.Need-returns-4
-unfolding enter-answer
 returns-4 c =
     let put = c .before .before in
     let o = c .before .before .before .before .before .before in

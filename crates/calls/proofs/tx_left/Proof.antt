@@ -3,7 +3,6 @@ use mathlib.Core.Path.{_≡_, sym, _∙_}
 use mathlib.Core.Bool.{true}
 use borrow.Author.Tests.{not-true, not-false}
 use denote.Ref.{now}
-use Rattle.kinds.specs.Answers.{leave-answer}
 use Rattle.rules.specs.Board.{board-of}
 use Rattle.rules.specs.Estimator.{is-pending}
 use Rattle.rules.specs.Memory.{sound-pending}
@@ -27,7 +26,6 @@ same-length : tie.Need-same-length
 same-length c = search needs
 
 returns : tie.Need-returns
-unfolding leave-answer
 returns c =
     let a = c .before .before .before .before .args in
     leave-damaged (board-of (a .on)) (a .state) (now (a .pending)) (now (a .id)) (sym (c .before .judge-pending .ensures) ∙ not-true _ (c .if1 .taken))
@@ -42,7 +40,6 @@ same-length-2 : tie.Need-same-length-2
 same-length-2 c = search needs
 
 returns-2 : tie.Need-returns-2
-unfolding leave-answer
 returns-2 c =
     let e = c .before .before .before .before in
     let a = start e .args in
@@ -58,7 +55,6 @@ same-length-3 : tie.Need-same-length-3
 same-length-3 c = search needs
 
 returns-3 : tie.Need-returns-3
-unfolding leave-answer
 returns-3 c =
     let gone = c .before .before in
     let o = gone .before .before .before in

@@ -92,7 +92,7 @@ same-length : tie.Need-same-length
 same-length c = search needs
 
 returns : tie.Need-returns
-unfolding told read-answer
+unfolding told
 returns c =
     let k = c .before .before .before .before .before .before .before .before .before .before .before .before .before in
     let all = target-lines (rates k) 1 25 in
@@ -103,35 +103,35 @@ same-length-2 : tie.Need-same-length-2
 same-length-2 c = search needs
 
 returns-2 : tie.Need-returns-2
-unfolding told read-answer refusal name carried line
+unfolding told refusal name carried line
 returns-2 c = as-told (c .before .before .before .before .before .before .before .before .before .before .before) _ (c .before .before .before .before .before .before .enum-told2 .given .1) (c .before .before .put-line .ensures)
 
 same-length-3 : tie.Need-same-length-3
 same-length-3 c = search needs
 
 returns-3 : tie.Need-returns-3
-unfolding told read-answer refusal name carried line
+unfolding told refusal name carried line
 returns-3 c = as-told (c .before .before .before .before .before .before .before .before .before .before .before) _ (c .before .before .before .before .before .before .enum-told3 .given .1) (c .before .before .put-line2 .ensures)
 
 same-length-4 : tie.Need-same-length-4
 same-length-4 c = search needs
 
 returns-4 : tie.Need-returns-4
-unfolding told read-answer refusal name carried line
+unfolding told refusal name carried line
 returns-4 c = as-told (c .before .before .before .before .before .before .before .before .before .before) _ (c .before .before .before .before .before .answer .given .1) (c .before .before .put-version .ensures)
 
 same-length-5 : tie.Need-same-length-5
 same-length-5 c = search needs
 
 returns-5 : tie.Need-returns-5
-unfolding told read-answer refusal name carried line
+unfolding told refusal name carried line
 returns-5 c = as-told (c .before .before .before .before .before .before .before .before .before .before .before) _ (c .before .before .before .before .before .before .enum-told4 .given .1) (c .before .before .put-line3 .ensures)
 
 same-length-6 : tie.Need-same-length-6
 same-length-6 c = search needs
 
 returns-6 : tie.Need-returns-6
-unfolding told read-answer refusal name carried line
+unfolding told refusal name carried line
 returns-6 c = as-told (c .before .before .before .before .before .before .before .before .before .before .before) _ (c .before .before .before .before .before .before .enum-told5 .given .1) (c .before .before .put-line4 .ensures)
 
 pub tell-spec : {M : Type 1} → statement M

@@ -4,7 +4,6 @@ use mathlib.Core.Bool.{true}
 use native.Mathlib.Omega.{arith}
 use borrow.Author.Tests.{not-true, not-false}
 use denote.Ref.{now}
-use Rattle.kinds.specs.Answers.{block-answer}
 use Rattle.rules.specs.Board.{board-of}
 use Rattle.rules.specs.Memory.{Lent, lent, sound}
 use Rattle.rules.specs.Calls.{pending-listings}
@@ -32,13 +31,11 @@ judge-memory-requires : tie.Need-judge-memory-requires
 judge-memory-requires c κs = search needs
 
 returns : tie.Need-returns
-unfolding block-answer
 returns c =
     let s = c .before .before .before .before .before .before .before in
     answer-damaged (board-of (s .args .on)) (s .args .state) (given s) (now (s .args .ids)) (s .args .height) (sym (c .before .judge-memory .ensures) ∙ not-true _ (c .if1 .taken))
 
 returns-2 : tie.Need-returns-2
-unfolding block-answer
 returns-2 c =
     let s = start (c .before) in
     answer-list (board-of (s .args .on)) (s .args .state) (given s) (now (s .args .ids)) (s .args .height) (is-sound (c .before)) (c .if2 .taken)
@@ -47,7 +44,6 @@ gap-requires : tie.Need-gap-requires
 gap-requires c κs = search needs
 
 returns-3 : tie.Need-returns-3
-unfolding block-answer
 returns-3 c =
     let e = c .before .before .before in
     let s = start e in
@@ -65,7 +61,7 @@ pending-listings-requires : tie.Need-pending-listings-requires
 pending-listings-requires c κs = let e = judged (c .before) in pending-sound (board-of (start e .args .on)) (start e .args .state) (given (start e)) (is-sound e)
 
 returns-4 : tie.Need-returns-4
-unfolding block-answer pending-listings
+unfolding pending-listings
 returns-4 c =
     let n = c .before in
     let g = n .before .before in
@@ -75,7 +71,7 @@ returns-4 c =
     (omega (arith, n .before .capacity .ensures, n .pending-listings .ensures, c .if4 .taken))
 
 returns-5 : tie.Need-returns-5
-unfolding block-answer pending-listings
+unfolding pending-listings
 returns-5 c =
     let n = c .before in
     let g = n .before .before in

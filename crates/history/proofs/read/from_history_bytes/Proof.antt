@@ -2,7 +2,6 @@
 use mathlib.Core.Path.{ap, _∙_, sym}
 use native.Mathlib.Omega.{arith}
 use denote.Ref.{now}
-use Rattle.kinds.specs.Answers.{read-answer}
 use Rattle.rules.specs.Board.{base}
 use Rattle.rules.specs.Memory.{Lent, lent}
 use Rattle.format.specs.Calls.{taken-in}
@@ -66,7 +65,7 @@ take-in-requires c κs =
     (read-as (k .check .result) (now (start k .args .bytes)) _ (c .before .before .before .before .before .header2 .given .1) (k .check .ensures), (omega arith, omega arith))
 
 returns-3 : tie.Need-returns-3
-unfolding said read-answer
+unfolding said
 returns-3 c =
     let k = c .before .before .before in
     let s = start k in
@@ -74,7 +73,7 @@ returns-3 c =
     (read-as (k .check .result) (now (s .args .bytes)) _ (c .before .enum-told .given .1) (k .check .ensures))
 
 returns-4 : tie.Need-returns-4
-unfolding said read-answer
+unfolding said
 returns-4 c =
     let k = c .before .before .before .before in
     let s = start k in
@@ -82,7 +81,7 @@ returns-4 c =
     (read-as (k .check .result) (now (s .args .bytes)) _ (c .before .before .header .given .1) (k .check .ensures))
 
 returns-5 : tie.Need-returns-5
-unfolding said read-answer
+unfolding said
 returns-5 c =
     let k = c .before .before .before in
     let s = start k in

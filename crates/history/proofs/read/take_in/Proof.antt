@@ -2,7 +2,6 @@
 use mathlib.Core.Path.{_∙_}
 use native.Mathlib.Omega.{arith}
 use denote.Ref.{now}
-use Rattle.kinds.specs.Answers.{read-answer}
 use Rattle.rules.specs.Memory.{lent}
 use Rattle.history.proofs.Answered.{no-pending-room, no-recent-room, with-room}
 use borrow.Author.Needs.{needs}
@@ -76,7 +75,6 @@ same-length-7 : tie.Need-same-length-7
 same-length-7 c = search needs
 
 returns-3 : tie.Need-returns-3
-unfolding read-answer
 returns-3 c =
     let k = c .before .before .before .before .before .before .before .before .before .before .before .before .before .before in
     let a = start k .args in

@@ -1,7 +1,6 @@
 -- `izrughem::answers::block_number` meets its contract: in each arm the answer is known. Assumes nothing.
 use mathlib.Core.Path.{sym}
 use borrow.Author.Needs.{needs}
-use Rattle.kinds.specs.Answers.{block-answer}
 use Rattle.izrughem.proofs.answers.block_number.Statement.{statement}
 use Rattle.izrughem.proofs.answers.block_number.Tie as tie
 
@@ -21,23 +20,18 @@ enum-told-5 : tie.Need-enum-told-5
 enum-told-5 c = search needs
 
 returns : tie.Need-returns
-unfolding block-answer
 returns c = sym (rw (c .enum-told .given .1))
 
 returns-2 : tie.Need-returns-2
-unfolding block-answer
 returns-2 c = sym (rw (c .enum-told2 .given .1))
 
 returns-3 : tie.Need-returns-3
-unfolding block-answer
 returns-3 c = sym (rw (c .enum-told3 .given .1))
 
 returns-4 : tie.Need-returns-4
-unfolding block-answer
 returns-4 c = sym (rw (c .enum-told4 .given .1))
 
 returns-5 : tie.Need-returns-5
-unfolding block-answer
 returns-5 c = sym (rw (c .enum-told5 .given .1))
 
 pub block-number-spec : {M : Type 1} → statement M

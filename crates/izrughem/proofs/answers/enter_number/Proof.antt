@@ -1,7 +1,6 @@
 -- `izrughem::answers::enter_number` meets its contract: in each arm the answer is known. Assumes nothing.
 use mathlib.Core.Path.{sym}
 use borrow.Author.Needs.{needs}
-use Rattle.kinds.specs.Answers.{enter-answer}
 use Rattle.izrughem.proofs.answers.enter_number.Statement.{statement}
 use Rattle.izrughem.proofs.answers.enter_number.Tie as tie
 
@@ -18,19 +17,15 @@ enum-told-4 : tie.Need-enum-told-4
 enum-told-4 c = search needs
 
 returns : tie.Need-returns
-unfolding enter-answer
 returns c = sym (rw (c .enum-told .given .1))
 
 returns-2 : tie.Need-returns-2
-unfolding enter-answer
 returns-2 c = sym (rw (c .enum-told2 .given .1))
 
 returns-3 : tie.Need-returns-3
-unfolding enter-answer
 returns-3 c = sym (rw (c .enum-told3 .given .1))
 
 returns-4 : tie.Need-returns-4
-unfolding enter-answer
 returns-4 c = sym (rw (c .enum-told4 .given .1))
 
 pub enter-number-spec : {M : Type 1} → statement M

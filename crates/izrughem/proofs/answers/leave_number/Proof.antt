@@ -1,7 +1,6 @@
 -- `izrughem::answers::leave_number` meets its contract: in each arm the answer is known. Assumes nothing.
 use mathlib.Core.Path.{sym}
 use borrow.Author.Needs.{needs}
-use Rattle.kinds.specs.Answers.{leave-answer}
 use Rattle.izrughem.proofs.answers.leave_number.Statement.{statement}
 use Rattle.izrughem.proofs.answers.leave_number.Tie as tie
 
@@ -15,15 +14,12 @@ enum-told-3 : tie.Need-enum-told-3
 enum-told-3 c = search needs
 
 returns : tie.Need-returns
-unfolding leave-answer
 returns c = sym (rw (c .enum-told .given .1))
 
 returns-2 : tie.Need-returns-2
-unfolding leave-answer
 returns-2 c = sym (rw (c .enum-told2 .given .1))
 
 returns-3 : tie.Need-returns-3
-unfolding leave-answer
 returns-3 c = sym (rw (c .enum-told3 .given .1))
 
 pub leave-number-spec : {M : Type 1} → statement M

@@ -1,7 +1,6 @@
 -- `izrughem::tell::tell_estimated` meets its contract: in each arm the answer is known. Assumes nothing.
 use mathlib.Core.Path.{sym}
 use borrow.Author.Needs.{needs}
-use Rattle.kinds.specs.Answers.{estimate-answer}
 use Rattle.izrughem.specs.Calls.{carry, rate-carried}
 use Rattle.izrughem.proofs.tell.tell_estimated.Statement.{statement}
 use Rattle.izrughem.proofs.tell.tell_estimated.Tie as tie
@@ -22,21 +21,21 @@ slice-write-carried-2 : tie.Need-slice-write-carried-2
 slice-write-carried-2 c = search needs
 
 returns : tie.Need-returns
-unfolding estimate-answer rate-carried carry
+unfolding rate-carried carry
 returns c = let e = c .enum-told .given .1 in (sym (rw e), sym (rw e))
 
 same-length : tie.Need-same-length
 same-length c = search needs
 
 returns-2 : tie.Need-returns-2
-unfolding estimate-answer rate-carried carry
+unfolding rate-carried carry
 returns-2 c = let e = c .enum-told2 .given .1 in (sym (rw e), sym (rw e))
 
 same-length-2 : tie.Need-same-length-2
 same-length-2 c = search needs
 
 returns-3 : tie.Need-returns-3
-unfolding estimate-answer rate-carried carry
+unfolding rate-carried carry
 returns-3 c = let e = c .before .estimated .given .1 in (sym (rw e), sym (rw e))
 
 pub tell-estimated-spec : {M : Type 1} → statement M

@@ -1,7 +1,6 @@
 -- `izrughem::tell::tell_reading` meets its contract: in each arm the answer is known. Assumes nothing.
 use mathlib.Core.Path.{sym, _∙_}
 use borrow.Author.Needs.{needs}
-use Rattle.kinds.specs.Answers.{read-answer}
 use Rattle.izrughem.specs.Calls.{put-if-done, carry}
 use Rattle.izrughem.proofs.tell.tell_reading.Statement.{statement}
 use Rattle.izrughem.proofs.tell.tell_reading.Tie as tie
@@ -37,30 +36,30 @@ same-length : tie.Need-same-length
 same-length c = search needs
 
 returns : tie.Need-returns
-unfolding read-answer put-if-done carry
+unfolding put-if-done carry
 returns c = let e = c .before .before .before .before .enum-told .given .1 in (sym (rw e), (c .before .before .put-state .ensures ∙ sym (rw e), sym (rw e)))
 
 returns-2 : tie.Need-returns-2
-unfolding read-answer put-if-done carry
+unfolding put-if-done carry
 returns-2 c = let e = c .enum-told2 .given .1 in (sym (rw e), (sym (rw e), sym (rw e)))
 
 returns-3 : tie.Need-returns-3
-unfolding read-answer put-if-done carry
+unfolding put-if-done carry
 returns-3 c = let e = c .enum-told3 .given .1 in (sym (rw e), (sym (rw e), sym (rw e)))
 
 same-length-2 : tie.Need-same-length-2
 same-length-2 c = search needs
 
 returns-4 : tie.Need-returns-4
-unfolding read-answer put-if-done carry
+unfolding put-if-done carry
 returns-4 c = let e = c .before .answer .given .1 in (sym (rw e), (sym (rw e), sym (rw e)))
 
 returns-5 : tie.Need-returns-5
-unfolding read-answer put-if-done carry
+unfolding put-if-done carry
 returns-5 c = let e = c .enum-told4 .given .1 in (sym (rw e), (sym (rw e), sym (rw e)))
 
 returns-6 : tie.Need-returns-6
-unfolding read-answer put-if-done carry
+unfolding put-if-done carry
 returns-6 c = let e = c .enum-told5 .given .1 in (sym (rw e), (sym (rw e), sym (rw e)))
 
 pub tell-reading-spec : {M : Type 1} → statement M

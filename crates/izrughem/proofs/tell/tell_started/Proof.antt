@@ -1,7 +1,6 @@
 -- `izrughem::tell::tell_started` meets its contract: in each arm the answer is known. Assumes nothing.
 use mathlib.Core.Path.{sym, _∙_}
 use borrow.Author.Needs.{needs}
-use Rattle.kinds.specs.Answers.{start-answer}
 use Rattle.izrughem.specs.Calls.{put-if-done}
 use Rattle.izrughem.proofs.tell.tell_started.Statement.{statement}
 use Rattle.izrughem.proofs.tell.tell_started.Tie as tie
@@ -19,11 +18,11 @@ same-length : tie.Need-same-length
 same-length c = search needs
 
 returns : tie.Need-returns
-unfolding start-answer put-if-done
+unfolding put-if-done
 returns c = let e = c .before .before .before .before .enum-told .given .1 in (sym (rw e), c .before .before .put-state .ensures ∙ sym (rw e))
 
 returns-2 : tie.Need-returns-2
-unfolding start-answer put-if-done
+unfolding put-if-done
 returns-2 c = let e = c .enum-told2 .given .1 in (sym (rw e), sym (rw e))
 
 pub tell-started-spec : {M : Type 1} → statement M

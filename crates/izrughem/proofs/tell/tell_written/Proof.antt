@@ -1,7 +1,6 @@
 -- `izrughem::tell::tell_written` meets its contract: in each arm the answer is known. Assumes nothing.
 use mathlib.Core.Path.{sym}
 use borrow.Author.Needs.{needs}
-use Rattle.kinds.specs.Answers.{write-answer}
 use Rattle.izrughem.specs.Calls.{carry, length-carried}
 use Rattle.izrughem.proofs.tell.tell_written.Statement.{statement}
 use Rattle.izrughem.proofs.tell.tell_written.Tie as tie
@@ -25,18 +24,18 @@ same-length : tie.Need-same-length
 same-length c = search needs
 
 returns : tie.Need-returns
-unfolding write-answer length-carried carry
+unfolding length-carried carry
 returns c = let e = c .enum-told .given .1 in (sym (rw e), sym (rw e))
 
 returns-2 : tie.Need-returns-2
-unfolding write-answer length-carried carry
+unfolding length-carried carry
 returns-2 c = let e = c .enum-told2 .given .1 in (sym (rw e), sym (rw e))
 
 same-length-2 : tie.Need-same-length-2
 same-length-2 c = search needs
 
 returns-3 : tie.Need-returns-3
-unfolding write-answer length-carried carry
+unfolding length-carried carry
 returns-3 c = let e = c .before .answer .given .1 in (sym (rw e), sym (rw e))
 
 pub tell-written-spec : {M : Type 1} → statement M

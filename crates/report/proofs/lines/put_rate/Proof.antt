@@ -31,7 +31,7 @@ same-length : tie.Need-same-length
 same-length c = search needs
 
 returns : tie.Need-returns
-unfolding carried-rate estimate-answer
+unfolding carried-rate
 returns c =
     let a = c .before .before .before .before .before .before .before .before .args in
     c .before .before .put-decimal .ensures ∙ ap (λ (e : Estimated). write (carried-rate (estimate-answer e .carries)) (page (now (a .out)) (a .at))) (sym (c .before .before .before .before .before .e .given .1))
@@ -40,7 +40,7 @@ same-length-2 : tie.Need-same-length-2
 same-length-2 c = search needs
 
 returns-2 : tie.Need-returns-2
-unfolding carried-rate estimate-answer
+unfolding carried-rate
 returns-2 c =
     let a = c .before .before .before .before .before .before .before .args in
     c .before .before .put-byte .ensures ∙ ap (λ (e : Estimated). write (carried-rate (estimate-answer e .carries)) (page (now (a .out)) (a .at))) (sym (c .before .before .before .before .enum-told .given .1))
@@ -49,7 +49,7 @@ same-length-3 : tie.Need-same-length-3
 same-length-3 c = search needs
 
 returns-3 : tie.Need-returns-3
-unfolding carried-rate estimate-answer
+unfolding carried-rate
 returns-3 c =
     let a = c .before .before .before .before .before .before .before .args in
     c .before .before .put-byte2 .ensures ∙ ap (λ (e : Estimated). write (carried-rate (estimate-answer e .carries)) (page (now (a .out)) (a .at))) (sym (c .before .before .before .before .enum-told2 .given .1))
