@@ -24,30 +24,33 @@ base-lawful =
       named = λ b. refl;
     }
 
+-- the wide board: the base board's layout, and columns that are not empty
 pub wide-lawful : Lawful wide
 wide-lawful = record { wide = lit< tt; kept = base-lawful .kept; fits = base-lawful .fits; named = base-lawful .named }
 
 -- ---- the board that a horizon names
 
+-- either board is lawful
 pub board-lawful : (on : Horizon) → Lawful (board-of on)
 board-lawful Horizon.Base = base-lawful
 board-lawful Horizon.Wide = wide-lawful
 
--- its records have room for an id and three numbers
+-- a pending record of either board has room for an id and three numbers
 pub size-least : (on : Horizon) → 44 ≤ board-of on .table .size
 size-least Horizon.Base = omega arith
 size-least Horizon.Wide = omega arith
 
--- and are read and written so
+-- pending records of either board are read as an id and three numbers
 pub read-is : (on : Horizon) → board-of on .table .read ≡ pending-of
 read-is Horizon.Base = refl
 read-is Horizon.Wide = refl
 
+-- pending records of either board are written as an id and three numbers
 pub write-is : (on : Horizon) → board-of on .table .write ≡ pending-bytes
 write-is Horizon.Base = refl
 write-is Horizon.Wide = refl
 
--- record number i, read from the bytes of records of n bytes
+-- record number i, of records of n bytes, is read as the board reads it
 pub read-at : (on : Horizon) (n used i : ℕ) (xs : List ℕ) → n ≡ board-of on .table .size
     → pending-of (getD (records n used xs) i []) ≡ board-of on .table .read (getD (records (board-of on .table .size) used xs) i [])
 read-at on n used i xs e = ap₂ (λ (f : List ℕ → Pending) (m : ℕ). f (getD (records m used xs) i [])) (sym (read-is on)) e
