@@ -1,2 +1,6 @@
+-- The whole life of a caller, whatever is called in between.
+
+-- any calls in any order, files written and read among them
 pub mod Lives
+-- demand 3 for whatever meets the contracts of the calls
 pub mod Contracts

@@ -31,15 +31,15 @@ pub record Life : Type 0 where
   pub is-fresh : Bool
   pub held : Held
 
--- the same run, and what the caller has now
+-- the life goes on in its run, and this is what the caller has now
 abbrev pub holding : Life → Held → Life
 holding y x = record { is-fresh = y .is-fresh; held = x }
 
--- with this state and memory, and the log as it was
+-- the life goes on with this state and memory, and the log as it was
 abbrev pub goes-on : Life → State → Lent → Life
 goes-on y s m = holding y (record { state = s; memory = m; log = y .held .log })
 
--- another run
+-- a run begins, after a fresh start (true) or a reading (false)
 abbrev pub begins : Bool → State → Lent → Life
 begins f s m = record { is-fresh = f; held = record { state = s; memory = m; log = begin } }
 
@@ -75,6 +75,7 @@ TypedAsks (q ∷ qs) = TypedAsk q × TypedAsks qs
 
 -- ---- estimates, writes, and readings and fresh starts that are refused stand anywhere and change nothing
 
+-- an ask that stands aside: it changes nothing
 unfoldable pub Aside : Version → Board → Ask → Life → Type 0
 Aside v k start y = eqb (start-call k (y .held .memory) .answer .number) 0 ≡ false
 Aside v k (change c) y = ⊥
@@ -82,16 +83,19 @@ Aside v k (estimate target) y = Unit {0}
 Aside v k (write out) y = Unit {0}
 Aside v k (read file) y = eqb (read-call v k (y .held .memory) file .answer .number) 0 ≡ false
 
+-- what stands aside leaves the life as it was
 unfoldable pub AsidePromise : Version → Board → Type 0
 AsidePromise v k = (q : Ask) (y : Life) → Aside v k q y → next v k q y ≡ y
 
 -- ---- demand 3, of every life: whatever a caller had before, and whatever was called since, if the run that stands began with a fresh start and its
 -- accepted blocks rise
 
+-- what the counts mean, what the calls answer, and that success lies between none and all
 pub record Lived (k : Board) (x : Held) : Type 0 where
   pub meant : Meant k (singly (x .log)) x
   pub answered : Answered k (singly (x .log)) x
   pub success : Success k (x .memory .confirmed) (x .memory .resolved)
 
+-- every life whose present run began fresh and has rising blocks is so
 unfoldable pub LifePromise : Version → Board → Type 0
 LifePromise v k = (m : Life) → m .is-fresh ≡ false → (qs : List Ask) → TypedAsks qs → let y = lives v k qs m in y .is-fresh ≡ true → Rising (y .held .log) → Lived k (y .held)

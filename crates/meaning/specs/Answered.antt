@@ -59,14 +59,16 @@ estimate-made k l target =
 
 -- ---- the promise
 
+-- what the calls answer where a run has come to
 pub record Answered (k : Board) (l : Log) (x : Held) : Type 0 where
   pub answers-are : (c : Call) → outcome-of k c x .answer ≡ foretold k l x c
   -- an estimate is document 01's, of the stored counts
   pub estimates-are : (target : Blocks) → estimate-call k (x .state) (x .memory .confirmed) (x .memory .resolved) target
       ≡ rate-answer (estimate k (target .0) (x .memory .confirmed) (x .memory .resolved))
-  -- and so of the counts that the log makes
+  -- an estimate of the stored counts is one of the counts that the log makes
   pub estimates-made : (target : ℕ) → estimate k target (x .memory .confirmed) (x .memory .resolved) ≡ estimate-made k l target
 
+-- every run with rising blocks is answered so
 unfoldable pub AnswerPromise : Board → Type 0
 AnswerPromise k = (m : Lent) → start-call k m .answer ≡ done → (cs : List Call) → AllTyped cs → Rising (calls k m cs .log) → Answered k (singly (calls k m cs .log)) (calls k m cs)
 
@@ -85,6 +87,7 @@ pub record Follows (k : Board) (m : Lent) (x : Held) : Type 0 where
   pub memory-is : x .memory ≡ lay k (run k (x .log)) m
   pub sound-is : sound k (x .state) (x .memory) ≡ true
 
+-- every run from a fresh start follows its log
 unfoldable pub RunPromise : Board → Type 0
 RunPromise k = (m : Lent) → start-call k m .answer ≡ done → (cs : List Call) → AllTyped cs → Follows k m (calls k m cs)
 
@@ -103,6 +106,7 @@ total n (l ▸ arrival i rate e) = total n l
 total n (l ▸ removal i) = total n l
 total n (l ▸ block ids h) = n h + total n l
 
+-- two sentences of demand 3 in other words
 pub record Restated (k : Board) (l : Log) (x : Held) : Type 0 where
   -- "once": an admission is in the tallies of all heights together once if it has been counted, and otherwise not at all
   pub once : (which : Kind) (b c : ℕ) → 1 ≤ c → c ≤ columns → total (tally which k (admissions l) b c) l ≡ count (λ a. eqb b (a .bucket) && is-counted which (fate-of k c a)) (admissions l)
@@ -110,5 +114,6 @@ pub record Restated (k : Board) (l : Log) (x : Held) : Type 0 where
   pub gone : (g : Log) (ids : List Id) (h : ℕ) → l ≡ g ▸ block ids h
       → count (λ r. leb (r .entry + k .width * columns) h) (pending-records k (x .state .pending) (x .memory .pending)) ≡ 0
 
+-- they hold of every run with rising blocks
 unfoldable pub RestatePromise : Board → Type 0
 RestatePromise k = (m : Lent) → start-call k m .answer ≡ done → (cs : List Call) → AllTyped cs → Rising (calls k m cs .log) → Restated k (singly (calls k m cs .log)) (calls k m cs)

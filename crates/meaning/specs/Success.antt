@@ -38,7 +38,7 @@ pub record Walk (k : Board) (target : ℕ) (confirmed resolved : Counts) : Type 
   pub begins : sums-at k target buckets confirmed resolved ≡ record { confirmed = nought; resolved = nought; rate = none }
   pub ends : 1 ≤ target → estimate k target confirmed resolved ≡ sums-at k target 0 confirmed resolved .rate
 
--- whatever the counts are
+-- the walk of an estimate, for every target and all counts
 unfoldable pub WalkPromise : Board → Type 0
 WalkPromise k = (target : ℕ) (confirmed resolved : Counts) → Walk k target confirmed resolved
 

@@ -1,4 +1,10 @@
+-- Laws of orders, from document 01's steps up to the calls.
+
+-- placing and dropping records
 pub mod Steps
+-- entering and leaving as calls
 pub mod Calls
+-- any number of them
 pub mod Feeds
+-- every promise, for the base board
 pub mod Base

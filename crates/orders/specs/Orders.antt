@@ -67,6 +67,7 @@ has k s xs i = is-pending i (pending-records k (s .pending) xs)
 abbrev pub Free : ℕ → Board → State → List ℕ → Type 0
 Free n k s xs = s .pending + n ≤ pending-capacity k xs
 
+-- the promises about two calls, on this state and these bytes
 pub record Orders (k : Board) (s : State) (xs : List ℕ) : Type 0 where
   -- "Two entries of different ids, neither pending, with at least two free places, give the same memory in either order."
   pub entries : (x y : Entry) → same (x .id) (y .id) ≡ false → has k s xs (x .id) ≡ false → has k s xs (y .id) ≡ false → Free 2 k s xs → Commute (entering k x) (entering k y) s xs

@@ -17,19 +17,21 @@ use Rattle.orders.specs.Orders.{Call, Entry, entering, leaving, in-turn,
 abbrev id : ℕ → Id
 id n = n ∷ replicate 31 0
 
--- it enters at the rate 5,000 and the height 100
+-- id n enters at the rate 5,000 and the height 100
 abbrev pub entry : ℕ → Entry
 entry n = record { id = id n; rate = record { 0 = 5000 }; height = record { 0 = 100 }; id-long = refl; height-small = lit< tt }
 
+-- id n enters the base board
 abbrev pub enters : ℕ → Call
 enters n = entering base (entry n)
 
+-- id n leaves the base board
 abbrev pub leaves : ℕ → Call
 leaves n = leaving base (id n)
 
 -- ---- the memory
 
--- so many places of the table are used
+-- a state with n pending records
 abbrev pub used : ℕ → State
 used n = record { last = Nothing; pending = n; recent = 0 }
 
@@ -53,6 +55,7 @@ turns n xs p a q b m ys =
     let o = in-turn p q (used n) xs in
     eqb (p (used n) xs .answer .number) a && (eqb (o .answer .number) b && (eqb (o .state .pending) m && same (o .lent) ys))
 
+-- the twelve cases
 unfoldable pub worked : List Bool
 worked =
     -- An entry and a leave of one id: the entry first, and nothing is left; the leave first, and it is answered Absent and the record stays.

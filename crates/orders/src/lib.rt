@@ -1,1 +1,1 @@
-// Laws only, no code: in which order entries and leaves may come, and what undoes what.
+// No code: in which order entries and leaves may come, and what undoes what.

@@ -6,6 +6,7 @@ use Rattle.rules.specs.Memory.{Lent, view, lay}
 use Rattle.rules.proofs.Memory.{Room}
 use Rattle.rules.proofs.Well.{Well}
 
+-- memory that is its own estimator, laid, which is well-formed and has room
 pub record Ready (k : Board) (s : State) (l : Lent) : Type 0 where
   pub own : lay k (view k s l) l ≡ l
   pub well : Well (view k s l)

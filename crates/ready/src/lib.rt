@@ -1,1 +1,1 @@
-// Laws only, no code: lent memory that is ready for a step, and how steps follow one another.
+// No code: lent memory that is ready for a step, and how steps follow one another.
