@@ -20,27 +20,6 @@ abbrev μ-loop : tie.MeasureT-loop
 loop-holds : tie.Need-loop-holds Inv-loop μ-loop
 loop-holds c = (omega arith, (down-none (c .args .from) (c .args .by) (now (c .args .a)), refl))
 
-add-a : tie.Need-add-a Inv-loop μ-loop
-add-a c = omega arith
-
-add-a-2 : tie.Need-add-a-2 Inv-loop μ-loop
-add-a-2 c = omega arith
-
-slice-read-a : tie.Need-slice-read-a Inv-loop μ-loop
-slice-read-a c = omega arith
-
-add-a-3 : tie.Need-add-a-3 Inv-loop μ-loop
-add-a-3 c = omega arith
-
-slice-write-a : tie.Need-slice-write-a Inv-loop μ-loop
-slice-write-a c = omega arith
-
-add-i : tie.Need-add-i Inv-loop μ-loop
-add-i c = omega arith
-
-loop-less : tie.Need-loop-less Inv-loop μ-loop
-loop-less c = omega arith
-
 loop-again : tie.Need-loop-again Inv-loop μ-loop
 loop-again c =
     let l = c .before .before .loop in
@@ -70,13 +49,13 @@ shift-down-spec =
     Inv-loop
     μ-loop
     loop-holds
-    add-a
-    add-a-2
-    slice-read-a
-    add-a-3
-    slice-write-a
-    add-i
-    loop-less
+    (λ c. omega arith)
+    (λ c. omega arith)
+    (λ c. omega arith)
+    (λ c. omega arith)
+    (λ c. omega arith)
+    (λ c. omega arith)
+    (λ c. omega arith)
     loop-again
     same-length
     returns)
