@@ -25,7 +25,7 @@ fn expire_one(resolved: &mut [f64], pending: &[u8], used: usize, i: usize, h: He
     let width = boards::width_of(on);
     let r = table::pending_at(pending, size, used, i);
     let e = r.entry;
-    let reach = passes::outwaited(h, e, width);
+    let reach = boards::outwaited(h, e, width);
     counts::count_expiry(resolved, r.bucket as usize, r.through, reach);
 }
 

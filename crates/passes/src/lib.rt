@@ -5,7 +5,6 @@ mod pass;
 pub use judge::judge_confirmed;
 pub use judge::judge_pending;
 pub use pass::drop_resolved;
-pub use pass::outwaited;
 pub use pass::prune_confirmed;
 pub use pass::raise_through;
 

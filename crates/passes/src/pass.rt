@@ -1,10 +1,11 @@
 // The passes over the fields of records.
 use crate::Bound;
+use boards::outwaited;
 use kinds::Blocks;
 use kinds::Height;
 ghost use mathlib.Core.Path.{_≡_};
 ghost use mathlib.Core.List.{map, []};
-ghost use Prim.Native.Nat.{_+_, _*_, _-_, _/_, min, _≤_, _<_};
+ghost use Prim.Native.Nat.{_+_, _*_, _-_, _≤_, _<_};
 ghost use lib.Dec.{leb, ltb};
 ghost use lib.ListN.{length, take, drop, set, getD};
 ghost use Rattle.rules.specs.Lists.{every, keep};
@@ -91,20 +92,6 @@ pub fn prune_confirmed(table: &mut [u8], used: usize, h: Height) -> usize
     let n = h.0;
     let least = if 25 <= n { n - 25 } else { 0 };
     keep_passing(table, 36, used, 32, Bound::AtLeast(least))
-}
-
-// The columns that a record has outwaited at height h.
-pub fn outwaited(h: Height, entry: Height, width: Blocks) -> u32
-    requires { ⌜ 0 < width .0 ⌝ }
-    ensures { λ r. ⌜ r ≡ min 25 ((h .0 - entry .0) / width .0) ⌝ }
-{
-    let n = h.0;
-    let e = entry.0;
-    if n <= e {
-        return 0;
-    }
-    let c = (n - e) / width.0;
-    if c <= 25 { c } else { 25 }
 }
 
 // Moves resolved-through of pending record number `i` up to what the record has outwaited at height h.

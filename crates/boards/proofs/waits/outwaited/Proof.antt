@@ -1,12 +1,15 @@
--- `passes::pass::outwaited` meets its contract.
+-- `boards::waits::outwaited` meets its contract.
 -- Assumes nothing.
 use mathlib.Core.Path.{_≡_, refl, sym}
 use Prim.Native.Nat.{_-_}
 use native.Mathlib.Omega.{arith}
 use native.Mathlib.Nat.{zero-div}
 use borrow.Author.Needs.{needs}
-use Rattle.passes.proofs.pass.outwaited.Statement.{statement}
-use Rattle.passes.proofs.pass.outwaited.Tie as tie
+use Rattle.boards.proofs.waits.outwaited.Statement.{statement}
+use Rattle.boards.proofs.waits.outwaited.Tie as tie
+
+cast-most : tie.Need-cast-most
+cast-most c = search needs
 
 returns : tie.Need-returns
 returns c =
@@ -26,4 +29,4 @@ returns-3 : tie.Need-returns-3
 returns-3 c = search needs
 
 pub outwaited-spec : {M : Type 1} → statement M
-outwaited-spec = tie.close (tie.spec returns sub-c div-c returns-2 returns-3)
+outwaited-spec = tie.close (tie.spec cast-most returns sub-c div-c returns-2 returns-3)
