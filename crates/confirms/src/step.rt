@@ -1,13 +1,13 @@
 // One listed id.
-use crate::tables::forget;
-use crate::tables::holds;
-use crate::tables::note_height;
 use boards::waited;
 use kinds::Height;
 use kinds::Horizon;
 use kinds::State;
 use table::Found;
 use table::PendingEntry;
+use table::forget;
+use table::holds;
+use table::note_height;
 ghost use mathlib.Core.Path.{_≡_};
 ghost use Prim.Native.Nat.{_+_, _*_, _≤_};
 ghost use lib.Dec.{leb, ltb};

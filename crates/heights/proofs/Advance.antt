@@ -3,6 +3,7 @@
 use mathlib.Core.Path.{_≡_, sym, subst, _∙_}
 use mathlib.Core.List.{List, _++_, map}
 use Prim.Native.Nat.{ℕ, _-_, _*_, _≤_}
+use native.Mathlib.Nat.{le-refl}
 use native.Mathlib.Omega.{arith}
 use lib.Dec.{T, leb, ltb}
 use lib.ListN.{length, take, drop, length-map}
@@ -22,20 +23,20 @@ use Rattle.rules.specs.Estimator.{expire-targets, moved, advance-height}
 use Rattle.rules.specs.Memory.{Lent, lent, pending-records, confirmed-records, lay-pending, lay-confirmed, view, state-of, lay}
 use Rattle.rules.specs.Calls.{outcome, accepted}
 use Rattle.rules.proofs.All.{All}
-use Rattle.rules.proofs.Records.{Sized, length-records, sized-records}
+use Rattle.rules.proofs.Records.{Sized, length-records, sized-records, used-within}
 use Rattle.rules.proofs.Memory.{confirmed-kept}
 use Rattle.rules.proofs.Boards.{board-lawful, size-least, read-is}
 use Rattle.rules.proofs.Well.{WellPending, length-expire}
 use Rattle.rules.proofs.Room.{length-keep}
 use Rattle.table.proofs.Records.{sized-keep, sized-map}
 use Rattle.table.proofs.Sound.{sound-told, sound-room}
+use Rattle.table.proofs.Edited.{passed}
 use Rattle.passes.specs.Fields.{raised}
 use Rattle.passes.proofs.Fields.{length-raised}
 use Rattle.passes.proofs.Steps.{pending-expired, confirmed-pruned}
 use Rattle.ready.specs.Ready.{Ready}
 use Rattle.ready.proofs.Facts.{resolved-places, pending-sound, recent-sound}
 use Rattle.heights.proofs.Expiry.{expire-first}
-use Rattle.heights.proofs.Tables.{passed}
 
 -- ---- counts, decayed after expiry
 
@@ -88,7 +89,7 @@ module _ (on : Horizon) (s : State) (l : Lent) (r : Ready (board-of on) s l) whe
         let z = sized-records size (s .pending) (l .pending) pending-room in
         let few : length expired ≤ s .pending =
         omega (arith, length-keep (λ b. ltb (pending-of b .through) 25) (map (raised (k .width) h) bs), length-map bs (raised (k .width) h), length-records size (s .pending) (l .pending)) in
-        passed (board-lawful on .kept) pending-most (s .pending) expired _ (l .pending) ys n (pending-sound k (board-lawful on) s l r) b few
+        passed (board-lawful on .kept) pending-most (s .pending) (s .pending) n expired _ (l .pending) ys (pending-sound k (board-lawful on) s l r) b (le-refl _) (used-within _ _ _ _ (pending-sound k (board-lawful on) s l r)) few
         (sized-keep (λ b. ltb (pending-of b .through) 25) size (map (raised (k .width) h) bs) (sized-map (raised (k .width) h) size bs (length-raised size (k .width) h) z)) (expired-read bs z) count e
 
     recent-left : (n : ℕ) (ys : List ℕ) → T (areBytes ys) → n ≡ length pruned → ys ≡ laid confirmed-size (s .recent) pruned (l .recent)
@@ -99,7 +100,7 @@ module _ (on : Horizon) (s : State) (l : Lent) (r : Ready (board-of on) s l) whe
         let z = sized-records confirmed-size (s .recent) (l .recent) recent-room in
         let few : length pruned ≤ s .recent =
         omega (arith, length-keep (λ b. leb (h - confirmed-of b .height) 25) bs, length-records confirmed-size (s .recent) (l .recent)) in
-        passed confirmed-kept confirmed-most (s .recent) pruned _ (l .recent) ys n (recent-sound k (board-lawful on) s l r) b few
+        passed confirmed-kept confirmed-most (s .recent) (s .recent) n pruned _ (l .recent) ys (recent-sound k (board-lawful on) s l r) b (le-refl _) (used-within _ _ _ _ (recent-sound k (board-lawful on) s l r)) few
         (sized-keep (λ b. leb (h - confirmed-of b .height) 25) confirmed-size bs z) (confirmed-pruned h bs) count e
 
     resolved-left : (d : Float) (xs : Counts) → xs ≡ expire-targets k h (pending-records k (s .pending) (l .pending)) (l .resolved)

@@ -1,5 +1,4 @@
--- What a search of one table tells, and what an edit of it leaves: the rules' records, laid. Whatever was edited, the slice still holds bytes, so its
--- records are those of their bytes; and `table` says which records they are. Assumes nothing.
+-- Records by their id: what a search of one table tells, and what an edit of it leaves, which are the rules' records, laid. Assumes nothing.
 use mathlib.Core.Path.{_≡_, sym, ap, subst, _∙_}
 use mathlib.Core.Bool.{true, false}
 use mathlib.Core.List.{List, [], map}
@@ -17,17 +16,17 @@ use Rattle.rules.specs.Memory.{pending-records, confirmed-records, confirmed-ca
 use Rattle.rules.proofs.Ids.{dropped-absent}
 use Rattle.rules.proofs.Records.{Sized, length-records, sized-records}
 use Rattle.rules.proofs.Memory.{confirmed-kept, ConfirmedFits, own}
 use Rattle.table.specs.Search.{find-in}
 use Rattle.table.specs.Edit.{insert-at, remove-at}
 use Rattle.table.specs.Fields.{with-field}
 use Rattle.table.specs.declared.Found.{Found}
 use Rattle.table.specs.declared.Found.the-variants.{At, Gap}
 use Rattle.table.proofs.Fields.{length-with-field}
 use Rattle.table.proofs.Records.{length-ids, sized-insert, sized-remove, sized-set, sized-at}
 use Rattle.table.proofs.Search.{at-told, gap-told}
 use Rattle.table.proofs.Sound.{sound-told, sound-room}
-use Rattle.table.proofs.Edited.{edited}
+use Rattle.table.proofs.Edited.{passed}
 use Rattle.table.proofs.Steps.{pending-missing, pending-there, pending-found, pending-lost, pending-without, confirmed-not-held, confirmed-held, confirmed-new, confirmed-again}
 
 -- ---- any table
 
@@ -86,12 +85,9 @@ module _ (k : Board) (law : Lawful k) (i : Id) (used n : ℕ) (xs : List ℕ) (s
       let many : length rs ≡ used = length-records (k .table .size) used xs in
       let m : n < used = at-used (k .table .size) used n xs i f in
       let fewer : length (remove-at n rs) ≡ used - 1 = simp (length-append, length-take, length-drop) (omega arith) in
-      let e : map (k .table .read) (remove-at n rs) ≡ without i (map (k .table .read) rs) = pending-without (k .table .read) (law .named) i n rs (g .rise) f in (
-        sym (ap length (sym e) ∙ length-map (remove-at n rs) (k .table .read) ∙ fewer),
-        edited (law .kept) pending-most used used (remove-at n rs) _ xs ys s b (omega arith) (g .fit) (omega arith)
-            (sized-remove (k .table .size) n rs (sized-records (k .table .size) used xs (sound-room (k .table .size) pending-most used xs g))) e
-            (r ∙ ap (λ (x : ℕ). laid x used (remove-at n (records x used xs)) xs) q),
-      )
+      passed (law .kept) pending-most used used (used - 1) (remove-at n rs) _ xs ys s b (omega arith) (g .fit) (omega arith)
+      (sized-remove (k .table .size) n rs (sized-records (k .table .size) used xs (sound-room (k .table .size) pending-most used xs g)))
+      (pending-without (k .table .read) (law .named) i n rs (g .rise) f) (sym fewer) (r ∙ ap (λ (x : ℕ). laid x used (remove-at n (records x used xs)) xs) q)
 
   -- there is none
   pub unmoved : T (areBytes xs) → find-in i (map id-of (records (k .table .size) used xs)) ≡ Gap n
@@ -128,11 +124,9 @@ module _ (i : Id) (used n : ℕ) (xs : List ℕ) (s : sound-table confirmed-size
         let many : length rs ≡ used = length-records confirmed-size used xs in
         let m : n ≤ used = gap-used confirmed-size used n xs i f in
         let more : length (insert-at n (confirmed-bytes new) rs) ≡ used + 1 = simp (length-append, length-take, length-drop) (omega arith) in
-        let e : map confirmed-of (insert-at n (confirmed-bytes new) rs) ≡ become i h (map confirmed-of rs) = confirmed-new i n rs (g .rise) h (confirmed-bytes new) (confirmed-kept .back new fine) f in (
-          sym (ap length (sym e) ∙ length-map (insert-at n (confirmed-bytes new) rs) confirmed-of ∙ more),
-          edited confirmed-kept confirmed-most used (used + 1) (insert-at n (confirmed-bytes new) rs) _ xs ys s b (omega arith) (omega arith) (omega arith)
-              (sized-insert confirmed-size n (confirmed-bytes new) rs (confirmed-kept .sized new fine) (sized-records confirmed-size used xs (sound-room confirmed-size confirmed-most used xs g))) e q,
-        )
+        passed confirmed-kept confirmed-most used (used + 1) (used + 1) (insert-at n (confirmed-bytes new) rs) _ xs ys s b (omega arith) (omega arith) (omega arith)
+        (sized-insert confirmed-size n (confirmed-bytes new) rs (confirmed-kept .sized new fine) (sized-records confirmed-size used xs (sound-room confirmed-size confirmed-most used xs g)))
+        (confirmed-new i n rs (g .rise) h (confirmed-bytes new) (confirmed-kept .back new fine) f) (sym more) q
 
     -- another height in the record of i
     pub noted-again : find-in i (map id-of (records confirmed-size used xs)) ≡ At n
@@ -148,7 +142,5 @@ module _ (i : Id) (used n : ℕ) (xs : List ℕ) (s : sound-table confirmed-size
         let m : n < used = at-used confirmed-size used n xs i f in
         let size : length new ≡ confirmed-size = length-with-field 32 h (getD rs n []) ∙ sized-at confirmed-size n rs z (omega arith) in
         let as-many : length (set rs n new) ≡ used = length-set rs n new ∙ many in
-        let e : map confirmed-of (set rs n new) ≡ become i h (map confirmed-of rs) = confirmed-again i n rs (g .rise) h z small f in (
-          sym (ap length (sym e) ∙ length-map (set rs n new) confirmed-of ∙ as-many),
-          edited confirmed-kept confirmed-most used used (set rs n new) _ xs ys s b (omega arith) (g .fit) (omega arith) (sized-set confirmed-size n new rs size z) e q,
-        )
+        passed confirmed-kept confirmed-most used used used (set rs n new) _ xs ys s b (omega arith) (g .fit) (omega arith) (sized-set confirmed-size n new rs size z)
+        (confirmed-again i n rs (g .rise) h z small f) (sym as-many) q

@@ -1,4 +1,4 @@
--- `confirms::tables::forget` meets its contract. Assumes nothing.
+-- `table::by_id::forget` meets its contract. Assumes nothing.
 use mathlib.Core.Path.{_≡_}
 use mathlib.Core.List.{map}
 use Prim.Native.Nat.{_*_, _≤_, _<_}
@@ -8,13 +8,13 @@ use denote.Ref.{now}
 use Rattle.rules.specs.Board.{board-of, pending-most}
 use Rattle.rules.specs.Records.{records, id-of}
 use Rattle.rules.proofs.Boards.{board-lawful}
 use Rattle.table.specs.Search.{find-in}
 use Rattle.table.specs.declared.Found.the-variants.{At}
 use Rattle.table.proofs.Edited.{are-bytes}
-use Rattle.confirms.proofs.Edited.{searchable, told, in-table, removed, unmoved}
+use Rattle.table.proofs.ById.{searchable, told, in-table, removed, unmoved}
 use borrow.Author.Needs.{needs}
-use Rattle.confirms.proofs.tables.forget.Statement.{statement}
-use Rattle.confirms.proofs.tables.forget.Tie as tie
+use Rattle.table.proofs.by_id.forget.Statement.{statement}
+use Rattle.table.proofs.by_id.forget.Tie as tie
 
 -- the record of the id, where the search has found one
 abbrev start : tie.After-i → tie.Start

@@ -1,7 +1,14 @@
-// One table, by an id.
+// Records by their id: whether there is one, and what comes and goes.
+use crate::Found;
+use crate::find;
+use crate::height_at;
+use crate::insert_confirmed;
+use crate::put_field;
+use crate::remove;
+use kinds::CONFIRMED_SIZE;
+use kinds::HEIGHT_AT;
 use kinds::Height;
 use kinds::Horizon;
-use table::Found;
 ghost use mathlib.Core.Path.{_≡_};
 ghost use mathlib.Core.Bool.{true};
 ghost use Prim.Native.Nat.{_<_};
@@ -18,7 +25,7 @@ pub fn is_pending(pending: &[u8], used: usize, id: &[u8], on: Horizon) -> bool
     ensures { λ r. ⌜ r ≡ is-pending (now (id .entry)) (pending-records (board-of on) used (now (pending .entry))) ⌝ }
 {
     let size = boards::record_size(on);
-    match table::find(pending, size, used, id) {
+    match find(pending, size, used, id) {
         Found::At(_) => true,
         Found::Gap(_) => false,
     }
@@ -32,9 +39,9 @@ pub fn forget(pending: &mut [u8], used: usize, id: &[u8], on: Horizon) -> usize
     ensures { λ _. ⌜ now (pending .exit) ≡ lay-pending (board-of on) (without (now (id .entry)) (pending-records (board-of on) used (now (pending .entry)))) (now (pending .entry)) ⌝ }
 {
     let size = boards::record_size(on);
-    match table::find(pending, size, used, id) {
+    match find(pending, size, used, id) {
         Found::At(i) => {
-            table::remove(pending, size, used, i);
+            remove(pending, size, used, i);
             used - 1
         }
         Found::Gap(_) => used,
@@ -42,14 +49,14 @@ pub fn forget(pending: &mut [u8], used: usize, id: &[u8], on: Horizon) -> usize
 }
 
 // Whether the confirmed record of the id holds exactly h.
-pub(crate) fn holds(recent: &[u8], used: usize, id: &[u8], h: Height) -> bool
+pub fn holds(recent: &[u8], used: usize, id: &[u8], h: Height) -> bool
     requires { ⌜ sound-table confirmed-size confirmed-most used (now recent) ≡ true ⌝ }
     requires { ⌜ length (now id) ≡ 32 ⌝ }
     ensures { λ r. ⌜ r ≡ holds (now (id .entry)) (h .0) (confirmed-records used (now (recent .entry))) ⌝ }
 {
-    match table::find(recent, 36, used, id) {
+    match find(recent, CONFIRMED_SIZE, used, id) {
         Found::At(i) => {
-            let old = table::height_at(recent, used, i);
+            let old = height_at(recent, used, i);
             old.0 == h.0
         }
         Found::Gap(_) => false,
@@ -57,20 +64,20 @@ pub(crate) fn holds(recent: &[u8], used: usize, id: &[u8], h: Height) -> bool
 }
 
 // The confirmed height of the id becomes h. The answer is how many confirmed records there are then.
-pub(crate) fn note_height(recent: &mut [u8], used: usize, id: &[u8], h: Height) -> usize
+pub fn note_height(recent: &mut [u8], used: usize, id: &[u8], h: Height) -> usize
     requires { ⌜ sound-table confirmed-size confirmed-most used (now recent) ≡ true ⌝ }
     requires { ⌜ used < confirmed-capacity (now recent) ⌝ }
     requires { ⌜ length (now id) ≡ 32 ⌝ }
     ensures { λ r. ⌜ r ≡ length (become (now (id .entry)) (h .0) (confirmed-records used (now (recent .entry)))) ⌝ }
     ensures { λ _. ⌜ now (recent .exit) ≡ lay-confirmed (become (now (id .entry)) (h .0) (confirmed-records used (now (recent .entry)))) (now (recent .entry)) ⌝ }
 {
-    match table::find(recent, 36, used, id) {
+    match find(recent, CONFIRMED_SIZE, used, id) {
         Found::At(i) => {
-            table::put_field(recent, 36, used, i, 32, h.0);
+            put_field(recent, CONFIRMED_SIZE, used, i, HEIGHT_AT, h.0);
             used
         }
         Found::Gap(i) => {
-            table::insert_confirmed(recent, used, i, id, h);
+            insert_confirmed(recent, used, i, id, h);
             used + 1
         }
     }

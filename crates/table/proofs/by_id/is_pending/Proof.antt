@@ -1,12 +1,12 @@
--- `confirms::tables::is_pending` meets its contract. Assumes nothing.
+-- `table::by_id::is_pending` meets its contract. Assumes nothing.
 use denote.Ref.{now}
 use native.Mathlib.Omega.{arith}
 use Rattle.rules.specs.Board.{board-of, pending-most}
 use Rattle.rules.proofs.Boards.{board-lawful}
-use Rattle.confirms.proofs.Edited.{searchable, told, there, missing}
+use Rattle.table.proofs.ById.{searchable, told, there, missing}
 use borrow.Author.Needs.{needs}
-use Rattle.confirms.proofs.tables.is_pending.Statement.{statement}
-use Rattle.confirms.proofs.tables.is_pending.Tie as tie
+use Rattle.table.proofs.by_id.is_pending.Statement.{statement}
+use Rattle.table.proofs.by_id.is_pending.Tie as tie
 
 record-size-requires : tie.Need-record-size-requires
 record-size-requires c κs = search needs

@@ -1,12 +1,12 @@
--- `confirms::tables::holds` meets its contract. Assumes nothing.
+-- `table::by_id::holds` meets its contract. Assumes nothing.
 use mathlib.Core.Path.{refl, sym, _∙_}
 use denote.Ref.{now}
 use native.Mathlib.Omega.{arith}
 use Rattle.rules.specs.Board.{confirmed-size, confirmed-most}
-use Rattle.confirms.proofs.Edited.{searchable, in-table, held, not-held}
+use Rattle.table.proofs.ById.{searchable, in-table, held, not-held}
 use borrow.Author.Needs.{needs}
-use Rattle.confirms.proofs.tables.holds.Statement.{statement}
-use Rattle.confirms.proofs.tables.holds.Tie as tie
+use Rattle.table.proofs.by_id.holds.Statement.{statement}
+use Rattle.table.proofs.by_id.holds.Tie as tie
 
 find-requires : tie.Need-find-requires
 find-requires c κs = let s = c .before .before in searchable confirmed-size confirmed-size confirmed-most _ _ (now (s .args .id)) refl (omega arith) (s .pre .0) (s .pre .1)

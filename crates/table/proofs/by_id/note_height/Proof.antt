@@ -1,13 +1,13 @@
--- `confirms::tables::note_height` meets its contract. Assumes nothing.
+-- `table::by_id::note_height` meets its contract. Assumes nothing.
 use mathlib.Core.Path.{refl, sym, _∙_}
 use native.Mathlib.Omega.{arith}
 use denote.Ref.{now}
 use Rattle.rules.specs.Board.{confirmed-size, confirmed-most}
 use Rattle.table.proofs.Edited.{are-bytes}
-use Rattle.confirms.proofs.Edited.{searchable, in-table, gap-used, noted-new, noted-again}
+use Rattle.table.proofs.ById.{searchable, in-table, gap-used, noted-new, noted-again}
 use borrow.Author.Needs.{needs}
-use Rattle.confirms.proofs.tables.note_height.Statement.{statement}
-use Rattle.confirms.proofs.tables.note_height.Tie as tie
+use Rattle.table.proofs.by_id.note_height.Statement.{statement}
+use Rattle.table.proofs.by_id.note_height.Tie as tie
 
 find-requires : tie.Need-find-requires
 find-requires c κs = let s = c .before .before .before in searchable confirmed-size confirmed-size confirmed-most _ _ (now (s .args .id)) refl (omega arith) (s .pre .0) (s .pre .1 .1)
