@@ -1,9 +1,6 @@
-// Passes over the records of a table: whether it is sound, the expiry pass over pending records, and the prune of confirmed records.
-mod judge;
+// Passes over the records of a table: the expiry pass over pending records, and the prune of confirmed records.
 mod pass;
 
-pub use judge::judge_confirmed;
-pub use judge::judge_pending;
 pub use pass::drop_resolved;
 pub use pass::prune_confirmed;
 pub use pass::raise_through;

@@ -8,7 +8,7 @@ ghost use mathlib.Core.List.{map, []};
 ghost use Prim.Native.Nat.{_+_, _*_, _-_, _≤_, _<_};
 ghost use lib.Dec.{leb, ltb};
 ghost use lib.ListN.{length, take, drop, set, getD};
-ghost use Rattle.rules.specs.Lists.{every, keep};
+ghost use Rattle.rules.specs.Lists.{keep};
 ghost use Rattle.rules.specs.Records.{records, laid};
 ghost use Rattle.passes.specs.Fields.{in-bound, passing, Moved, raised};
 ghost use Rattle.rules.specs.Board.{pending-of, confirmed-of};
@@ -28,21 +28,6 @@ fn passes(table: &[u8], size: usize, i: usize, off: usize, b: Bound) -> bool
     ensures { λ r. ⌜ r ≡ passing off b (take size (drop (i * size) (now (table .entry)))) ⌝ }
 {
     within(mem::u32_le(table, i * size + off), b)
-}
-
-// Whether that of every record is.
-pub(crate) fn all_pass(table: &[u8], size: usize, used: usize, off: usize, b: Bound) -> bool
-    requires { ⌜ (off + 4 ≤ size) × (used * size ≤ length (now table)) ⌝ }
-    ensures { λ r. ⌜ r ≡ every (passing off b) (records size used (now (table .entry))) ⌝ }
-{
-    let mut i = 0;
-    while i < used {
-        if !passes(table, size, i, off, b) {
-            return false;
-        }
-        i += 1;
-    }
-    true
 }
 
 // One turn of `keep_passing`: where record `i` stays it becomes record `k`, and the answer is the next `k`.
