@@ -1,18 +1,22 @@
-// The numbers of the board that a horizon names.
+// What a horizon stands for in numbers: the size of a record, the width of a column, the factor, and from time to column.
+mod waits;
+
 use kinds::Blocks;
 use kinds::Horizon;
+pub use waits::outwaited;
+pub use waits::waited;
 ghost use mathlib.Core.Path.{_≡_};
 ghost use Prim.Native.Nat.{_≤_, _<_};
-ghost use Rattle.rules.specs.Board.{board-of};
+ghost use Rattle.rules.specs.Board.{board-of, pending-size};
 
 // How many bytes a pending record takes: at least an id and three numbers.
 pub fn record_size(on: Horizon) -> usize
     ensures { λ r. ⌜ r ≡ board-of on .table .size ⌝ }
-    ensures { λ r. ⌜ 44 ≤ r ⌝ }
+    ensures { λ r. ⌜ pending-size ≤ r ⌝ }
 {
     match on {
-        Horizon::Base => 44,
-        Horizon::Wide => 44,
+        Horizon::Base => kinds::PENDING_SIZE,
+        Horizon::Wide => kinds::PENDING_SIZE,
     }
 }
 
@@ -22,8 +26,8 @@ pub fn width_of(on: Horizon) -> Blocks
     ensures { λ r. ⌜ 0 < r .0 ⌝ }
 {
     match on {
-        Horizon::Base => Blocks(1),
-        Horizon::Wide => Blocks(6),
+        Horizon::Base => Blocks(kinds::WIDTH),
+        Horizon::Wide => Blocks(kinds::WIDE_WIDTH),
     }
 }
 
@@ -32,7 +36,7 @@ pub fn factor_of(on: Horizon) -> f64
     ensures { λ r. ⌜ r ≡ board-of on .decay ⌝ }
 {
     match on {
-        Horizon::Base => 0.998,
-        Horizon::Wide => 0.9995,
+        Horizon::Base => kinds::DECAY_FACTOR,
+        Horizon::Wide => kinds::WIDE_DECAY_FACTOR,
     }
 }

@@ -30,7 +30,7 @@ use Rattle.table.proofs.Records.{sized-insert}
 use Rattle.table.proofs.Sound.{sound-told, sound-room}
 use Rattle.table.proofs.Steps.{pending-put}
 use Rattle.table.proofs.Edited.{edited}
-use Rattle.confirms.proofs.Edited.{gap-used, there, missing}
+use Rattle.table.proofs.ById.{gap-used, there, missing}
 use Rattle.calls.proofs.Parts.{pending-table}
 
 -- what an enter is given

@@ -51,7 +51,7 @@ pub(crate) fn judge_block(
 ) -> BlockAnswer
     ensures { λ r. ⌜ block-answer r ≡ block-call (board-of on) state (before confirmed resolved pending recent) (now (ids .entry)) height .answer ⌝ }
 {
-    if !memory::judge_memory(state, confirmed, resolved, pending, recent, on) {
+    if !judge::judge_memory(state, confirmed, resolved, pending, recent, on) {
         return BlockAnswer::Damaged;
     }
     if ids.len() % 32 != 0 {

@@ -1,4 +1,3 @@
--- `Edited`: one table, searched and edited. `Stepped`: one listed id. `Listing`: the list.
-pub mod Edited
+-- `Stepped`: one listed id. `Listing`: the list.
 pub mod Stepped
 pub mod Listing

@@ -1,13 +1,13 @@
 // One listed id.
-use crate::tables::forget;
-use crate::tables::holds;
-use crate::tables::note_height;
-use kinds::Blocks;
+use boards::waited;
 use kinds::Height;
 use kinds::Horizon;
 use kinds::State;
 use table::Found;
 use table::PendingEntry;
+use table::forget;
+use table::holds;
+use table::note_height;
 ghost use mathlib.Core.Path.{_≡_};
 ghost use Prim.Native.Nat.{_+_, _*_, _≤_};
 ghost use lib.Dec.{leb, ltb};
@@ -21,19 +21,6 @@ ghost use Rattle.rules.specs.Memory.{view, pending-records, confirmed-capacity}
 ghost use Rattle.rules.specs.Slices.{given, before, after};
 ghost use Rattle.rules.specs.Calls.{outcome, accepted};
 ghost use Rattle.ready.specs.Ready.{Ready};
-
-// How long a transaction has waited: at least one block.
-fn waited(entry: Height, h: Height) -> Blocks
-    ensures { λ r. ⌜ r .0 ≡ wait (h .0) (entry .0) ⌝ }
-{
-    let from = entry.0;
-    let to = h.0;
-    if from < to {
-        Blocks(to - from)
-    } else {
-        Blocks(1)
-    }
-}
 
 // Counts the confirmation at h of a pending record.
 fn count(confirmed: &mut [f64], resolved: &mut [f64], r: PendingEntry, h: Height, on: Horizon)

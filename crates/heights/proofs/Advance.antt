@@ -3,6 +3,7 @@
 use mathlib.Core.Path.{_≡_, sym, subst, _∙_}
 use mathlib.Core.List.{List, _++_, map}
 use Prim.Native.Nat.{ℕ, _-_, _*_, _≤_}
+use native.Mathlib.Nat.{le-refl}
 use native.Mathlib.Omega.{arith}
 use lib.Dec.{T, leb, ltb}
 use lib.ListN.{length, take, drop, length-map}
@@ -15,27 +16,27 @@ use Rattle.kinds.specs.declared.Last.the-variants.{At}
 use Rattle.kinds.specs.declared.State.{State}
 use Rattle.kinds.specs.Answers.{done}
 use Rattle.rules.specs.Lists.{keep}
-use Rattle.rules.specs.Counts.{Counts, places-of-counts, apply-decay}
+use Rattle.rules.specs.Counts.{Counts, columns, places-of-counts, apply-decay}
 use Rattle.rules.specs.Records.{records, laid}
-use Rattle.rules.specs.Board.{Board, Pending, board-of, pending-most, pending-of, confirmed-size, confirmed-most, confirmed-of}
+use Rattle.rules.specs.Board.{Board, Pending, board-of, pending-most, confirmed-size, confirmed-most, confirmed-of}
 use Rattle.rules.specs.Estimator.{expire-targets, moved, advance-height}
 use Rattle.rules.specs.Memory.{Lent, lent, pending-records, confirmed-records, lay-pending, lay-confirmed, view, state-of, lay}
 use Rattle.rules.specs.Calls.{outcome, accepted}
 use Rattle.rules.proofs.All.{All}
-use Rattle.rules.proofs.Records.{Sized, length-records, sized-records}
+use Rattle.rules.proofs.Records.{Sized, length-records, sized-records, used-within}
 use Rattle.rules.proofs.Memory.{confirmed-kept}
 use Rattle.rules.proofs.Boards.{board-lawful, size-least, read-is}
 use Rattle.rules.proofs.Well.{WellPending, length-expire}
 use Rattle.rules.proofs.Room.{length-keep}
 use Rattle.table.proofs.Records.{sized-keep, sized-map}
 use Rattle.table.proofs.Sound.{sound-told, sound-room}
-use Rattle.passes.specs.Fields.{raised}
-use Rattle.passes.proofs.Fields.{length-raised}
-use Rattle.passes.proofs.Steps.{pending-expired, confirmed-pruned}
+use Rattle.table.proofs.Edited.{passed}
+use Rattle.expiry.specs.Fields.{raised, waiting}
+use Rattle.expiry.proofs.Fields.{length-raised}
+use Rattle.expiry.proofs.Steps.{pending-expired, confirmed-pruned}
 use Rattle.ready.specs.Ready.{Ready}
 use Rattle.ready.proofs.Facts.{resolved-places, pending-sound, recent-sound}
-use Rattle.heights.proofs.Expiry.{expire-first}
-use Rattle.heights.proofs.Tables.{passed}
+use Rattle.expiry.proofs.Expiry.{expire-first}
 
 -- ---- counts, decayed after expiry
 
@@ -68,16 +69,16 @@ module _ (on : Horizon) (s : State) (l : Lent) (r : Ready (board-of on) s l) whe
   module _ (h : ℕ) where
     -- what is left of each table
     abbrev expired : List (List ℕ)
-    expired = keep (λ b. ltb (pending-of b .through) 25) (map (raised (k .width) h) (records size (s .pending) (l .pending)))
+    expired = keep waiting (map (raised (k .width) h) (records size (s .pending) (l .pending)))
 
     abbrev pruned : List (List ℕ)
-    pruned = keep (λ b. leb (h - confirmed-of b .height) 25) (records confirmed-size (s .recent) (l .recent))
+    pruned = keep (λ b. leb (h - confirmed-of b .height) columns) (records confirmed-size (s .recent) (l .recent))
 
     -- the rules' expiry, by the board's own reading
     expired-read : (bs : List (List ℕ)) → Sized size bs
-        → map (k .table .read) (keep (λ b. ltb (pending-of b .through) 25) (map (raised (k .width) h) bs)) ≡ keep (λ q. ltb (q .through) 25) (map (moved k h) (map (k .table .read) bs))
+        → map (k .table .read) (keep waiting (map (raised (k .width) h) bs)) ≡ keep (λ q. ltb (q .through) columns) (map (moved k h) (map (k .table .read) bs))
     expired-read bs z =
-        subst (λ (f : List ℕ → Pending). map f (keep (λ b. ltb (pending-of b .through) 25) (map (raised (k .width) h) bs)) ≡ keep (λ q. ltb (q .through) 25) (map (moved k h) (map f bs)))
+        subst (λ (f : List ℕ → Pending). map f (keep waiting (map (raised (k .width) h) bs)) ≡ keep (λ q. ltb (q .through) columns) (map (moved k h) (map f bs)))
         (sym (read-is on)) (pending-expired k h size (size-least on) bs z)
 
     pending-left : (n : ℕ) (ys : List ℕ) → T (areBytes ys) → n ≡ length expired → ys ≡ laid size (s .pending) expired (l .pending)
@@ -87,9 +88,9 @@ module _ (on : Horizon) (s : State) (l : Lent) (r : Ready (board-of on) s l) whe
         let bs : List (List ℕ) = records size (s .pending) (l .pending) in
         let z = sized-records size (s .pending) (l .pending) pending-room in
         let few : length expired ≤ s .pending =
-        omega (arith, length-keep (λ b. ltb (pending-of b .through) 25) (map (raised (k .width) h) bs), length-map bs (raised (k .width) h), length-records size (s .pending) (l .pending)) in
-        passed (board-lawful on .kept) pending-most (s .pending) expired _ (l .pending) ys n (pending-sound k (board-lawful on) s l r) b few
-        (sized-keep (λ b. ltb (pending-of b .through) 25) size (map (raised (k .width) h) bs) (sized-map (raised (k .width) h) size bs (length-raised size (k .width) h) z)) (expired-read bs z) count e
+        omega (arith, length-keep waiting (map (raised (k .width) h) bs), length-map bs (raised (k .width) h), length-records size (s .pending) (l .pending)) in
+        passed (board-lawful on .kept) pending-most (s .pending) (s .pending) n expired _ (l .pending) ys (pending-sound k (board-lawful on) s l r) b (le-refl _) (used-within _ _ _ _ (pending-sound k (board-lawful on) s l r)) few
+        (sized-keep waiting size (map (raised (k .width) h) bs) (sized-map (raised (k .width) h) size bs (length-raised size (k .width) h) z)) (expired-read bs z) count e
 
     recent-left : (n : ℕ) (ys : List ℕ) → T (areBytes ys) → n ≡ length pruned → ys ≡ laid confirmed-size (s .recent) pruned (l .recent)
         → (n ≡ length (advance-height k h (view k s l) .recent)) × (ys ≡ lay-confirmed (advance-height k h (view k s l) .recent) (l .recent))
@@ -98,9 +99,9 @@ module _ (on : Horizon) (s : State) (l : Lent) (r : Ready (board-of on) s l) whe
         let bs : List (List ℕ) = records confirmed-size (s .recent) (l .recent) in
         let z = sized-records confirmed-size (s .recent) (l .recent) recent-room in
         let few : length pruned ≤ s .recent =
-        omega (arith, length-keep (λ b. leb (h - confirmed-of b .height) 25) bs, length-records confirmed-size (s .recent) (l .recent)) in
-        passed confirmed-kept confirmed-most (s .recent) pruned _ (l .recent) ys n (recent-sound k (board-lawful on) s l r) b few
-        (sized-keep (λ b. leb (h - confirmed-of b .height) 25) confirmed-size bs z) (confirmed-pruned h bs) count e
+        omega (arith, length-keep (λ b. leb (h - confirmed-of b .height) columns) bs, length-records confirmed-size (s .recent) (l .recent)) in
+        passed confirmed-kept confirmed-most (s .recent) (s .recent) n pruned _ (l .recent) ys (recent-sound k (board-lawful on) s l r) b (le-refl _) (used-within _ _ _ _ (recent-sound k (board-lawful on) s l r)) few
+        (sized-keep (λ b. leb (h - confirmed-of b .height) columns) confirmed-size bs z) (confirmed-pruned h bs) count e
 
     resolved-left : (d : Float) (xs : Counts) → xs ≡ expire-targets k h (pending-records k (s .pending) (l .pending)) (l .resolved)
         → apply-decay d (take places-of-counts xs) ++ drop places-of-counts xs

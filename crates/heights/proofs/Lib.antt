@@ -1,5 +1,3 @@
--- `Expiry`: expiry, record after record. `Tables`: passes over the tables of ready memory. `Advance`: one height. `Skip`: one height after the other.
-pub mod Expiry
-pub mod Tables
+-- `Advance`: one height. `Skip`: one height after the other.
 pub mod Advance
 pub mod Skip

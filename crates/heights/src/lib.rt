@@ -1,7 +1,4 @@
 // Heights advanced over the lent memory, one by one.
-mod expire;
-
-use expire::expire_pending;
 use kinds::Height;
 use kinds::Horizon;
 use kinds::Last;
@@ -33,9 +30,9 @@ pub fn advance_height(
 {
     let used = state.pending;
     let kept = state.recent;
-    let waiting = expire_pending(resolved, pending, used, h, on);
+    let waiting = expiry::expire_pending(resolved, pending, used, h, on);
     counts::apply_decay(confirmed, resolved, boards::factor_of(on));
-    let young = passes::prune_confirmed(recent, kept, h);
+    let young = expiry::prune_confirmed(recent, kept, h);
     State {
         last: Last::At(h),
         pending: waiting,

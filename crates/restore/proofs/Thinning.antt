@@ -12,7 +12,7 @@ use Rattle.lists.proofs.Part.{next-part}
 use Rattle.rules.specs.Ids.{Id, same}
 use Rattle.rules.specs.Records.{records, joined, id-of}
 use Rattle.rules.proofs.Records.{Sized, length-records, sized-records, joined-records, records-joined}
-use Rattle.passes.specs.Fields.{Moved}
+use Rattle.table.specs.Edit.{Moved}
 use Rattle.table.proofs.Ids.{id32}
 use Rattle.table.proofs.Records.{getD-records, record-end, id-at, joined-snoc, sized-at}
 use Rattle.restore.specs.Once.{once-after, once, Kept}

@@ -6,7 +6,7 @@ ghost use Prim.Native.Nat.{_+_, _*_, _-_, _≤_, _<_};
 ghost use lib.ListN.{length, take, drop};
 ghost use Rattle.rules.specs.Ids.{same};
 ghost use Rattle.rules.specs.Records.{id-of};
-ghost use Rattle.passes.specs.Fields.{Moved};
+ghost use Rattle.table.specs.Edit.{Moved};
 ghost use Rattle.restore.specs.Once.{Kept};
 
 // Whether the ids at `p` and at `q` are the same.

@@ -8,7 +8,7 @@ use native.Mathlib.Nat.{mul-le-mul-right}
 use native.Mathlib.Omega.{arith}
 use lib.Dec.{T, ltb, lt→ltb}
 use lib.Ieee.Fits.{and-i}
-use lib.ListN.{length, getD}
+use lib.ListN.{length, getD, length-map}
 use lib.Pow.{areBytes}
 use Rattle.rules.specs.Records.{records, capacity, sound-table, laid}
 use Rattle.rules.specs.Board.{Kept}
@@ -33,3 +33,9 @@ module _ {A : Type 0} {size : ℕ} {to : A → List ℕ} {from : List ℕ → A}
       let there : records size (length bs) ys ≡ bs = ap (records size (length bs)) q ∙ laid-records size n bs xs z in
       let again : map to (map from bs) ≡ bs = ap (λ (r : List (List ℕ)). map to (map from r)) (sym there) ∙ forth-records k (length bs) ys (omega (arith, mul-le-mul-right size h)) b ∙ there in
       q ∙ laid-up size most used n bs xs (sound-told size most used xs s) h u l ∙ ap (λ (r : List (List ℕ)). laid size (capacity size most xs) r xs) (sym again ∙ ap (map to) e)
+
+  -- n is how many they are
+  pub passed : (most used places n : ℕ) (bs : List (List ℕ)) (qs : List A) (xs ys : List ℕ) → sound-table size most used xs ≡ true → T (areBytes ys)
+      → used ≤ places → places ≤ capacity size most xs → length bs ≤ places → Sized size bs → map from bs ≡ qs → n ≡ length bs → ys ≡ laid size places bs xs
+      → (n ≡ length qs) × (ys ≡ laid size (capacity size most xs) (map to qs) xs)
+  passed most used places n bs qs xs ys s b u l h z e count q = (count ∙ sym (length-map bs from) ∙ ap length e, edited most used places bs qs xs ys s b u l h z e q)

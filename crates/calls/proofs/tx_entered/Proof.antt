@@ -18,7 +18,7 @@ use Rattle.rules.proofs.Records.{used-within}
 use Rattle.table.specs.Search.{find-in}
 use Rattle.table.specs.declared.Found.the-variants.{Gap}
 use Rattle.rules.proofs.Bytes.{are-bytes}
-use Rattle.confirms.proofs.Edited.{searchable, told, gap-used}
+use Rattle.table.proofs.ById.{searchable, told, gap-used}
 use Rattle.calls.proofs.Parts.{pending-table, one-more}
 use Rattle.calls.proofs.Entering.{Enter, enter-damaged, enter-there, enter-full, enter-done}
 use borrow.Author.Needs.{needs}

@@ -17,7 +17,7 @@ use Rattle.ready.proofs.Facts.{confirmed-places, resolved-places, pending-sound
 use Rattle.table.specs.Search.{find-in}
 use Rattle.table.specs.declared.Found.the-variants.{At}
 use Rattle.table.proofs.Edited.{are-bytes}
-use Rattle.confirms.proofs.Edited.{searchable, told, in-table, there, found, lost, removed}
+use Rattle.table.proofs.ById.{searchable, told, in-table, there, found, lost, removed}
 use Rattle.confirms.proofs.Stepped.{bucket-fits, room-for-it, unlisted, counted}
 use borrow.Author.Needs.{needs}
 use Rattle.confirms.proofs.step.record_confirmation.Statement.{statement}

@@ -14,7 +14,7 @@ use Rattle.lists.proofs.Part.{next-part}
 use Rattle.rules.specs.Ids.{Id, same}
 use Rattle.rules.specs.Records.{id-of}
 use Rattle.table.proofs.Ids.{id32}
-use Rattle.passes.proofs.Keeping.{moved-stays, moved-goes}
+use Rattle.table.proofs.Keeping.{moved-stays, moved-goes}
 use Rattle.restore.proofs.once.keep_other.Statement.{statement}
 use Rattle.restore.proofs.once.keep_other.Tie as tie
 

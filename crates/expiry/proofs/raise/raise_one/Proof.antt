@@ -1,0 +1,75 @@
+-- `expiry::raise::raise_one` meets its contract. Assumes nothing.
+use mathlib.Core.Path.{_≡_, sym, ap, _∙_}
+use mathlib.Core.List.{List, []}
+use Prim.Native.Nat.{ℕ, _-_, _/_, min}
+use denote.Ref.{now}
+use lib.ListN.{getD, set}
+use lib.Seq.{set-getD}
+use Rattle.rules.specs.Counts.{columns}
+use Rattle.rules.specs.Records.{records, laid}
+use Rattle.table.proofs.Laid.{laid-same}
+use Rattle.expiry.specs.Fields.{reach}
+use Rattle.expiry.proofs.Fields.{raised-yes, raised-no}
+use borrow.Author.Needs.{needs}
+use Rattle.expiry.proofs.raise.raise_one.Statement.{statement}
+use Rattle.expiry.proofs.raise.raise_one.Tie as tie
+
+-- the record that is looked at, and what it has outwaited
+abbrev start : tie.After-outwaited → tie.Start
+start n = n .before .before .before .before
+
+abbrev rec : tie.After-outwaited → List ℕ
+rec n = let a = start n .args in getD (records (a .size) (a .used) (now (a .table))) (a .i) []
+
+reach-is : (n : tie.After-outwaited) → n .outwaited .result ≡ reach (start n .args .width .0) (start n .args .h .0) (rec n)
+reach-is n =
+    let a = start n .args in
+    n .outwaited .ensures ∙ ap (λ (e : ℕ). min columns ((a .h .0 - e) / a .width .0)) (n .before .pending-at .ensures .1 .0)
+
+pending-at-requires : tie.Need-pending-at-requires
+pending-at-requires c κs = search needs
+
+outwaited-requires : tie.Need-outwaited-requires
+outwaited-requires c κs = search needs
+
+put-field-requires : tie.Need-put-field-requires
+put-field-requires c κs = search needs
+
+same-length : tie.Need-same-length
+same-length c = search needs
+
+returns : tie.Need-returns
+returns c =
+    let n = c .before .before .before .before .before .before in
+    let s = start n in
+    let xs = now (s .args .table) in
+    c .before .before .put-field .ensures
+    ∙ ap (λ (w : List ℕ). laid (s .args .size) (s .args .used) (set (records (s .args .size) (s .args .used) xs) (s .args .i) w) xs)
+    (raised-yes (s .args .width .0) (s .args .h .0) _ _ (rec n) (n .before .pending-at .ensures .1 .1) (reach-is n) (c .before .before .before .before .if1 .taken))
+
+same-length-2 : tie.Need-same-length-2
+same-length-2 c = search needs
+
+returns-2 : tie.Need-returns-2
+returns-2 c =
+    let n = c .before .before in
+    let s = start n in
+    let xs = now (s .args .table) in
+    let rs = records (s .args .size) (s .args .used) xs in
+    sym
+    (ap (λ (w : List ℕ). laid (s .args .size) (s .args .used) (set rs (s .args .i) w) xs)
+    (sym (raised-no (s .args .width .0) (s .args .h .0) _ _ (rec n) (n .before .pending-at .ensures .1 .1) (reach-is n) (c .if1 .left)))
+    ∙ ap (λ (l : List (List ℕ)). laid (s .args .size) (s .args .used) l xs) (set-getD rs (s .args .i) [])
+    ∙ laid-same (s .args .size) (s .args .used) xs (s .pre .1 .1 .1))
+
+pub raise-one-spec : {M : Type 1} → statement M
+raise-one-spec =
+    tie.close
+    (tie.spec
+    pending-at-requires
+    outwaited-requires
+    put-field-requires
+    same-length
+    returns
+    same-length-2
+    returns-2)

@@ -1,0 +1,2 @@
+-- `Soundness`: the code's test of a count is the rules'.
+pub mod Soundness

@@ -1,0 +1,50 @@
+-- `judge::tables::judge_pending` meets its contract: the size of a record, as the code has asked for it, is the board's. Assumes nothing.
+use mathlib.Core.Path.{_≡_, sym, ap₂, _∙_}
+use mathlib.Core.Bool.{true, _&&_}
+use mathlib.Core.List.{List, map}
+use Prim.Native.Nat.{ℕ, _*_, _≤_}
+use denote.Ref.{now}
+use lib.ListN.{length}
+use Rattle.kinds.specs.declared.Horizon.{Horizon}
+use Rattle.rules.specs.Lists.{every}
+use Rattle.rules.specs.Records.{records, sound-table}
+use Rattle.rules.specs.Memory.{sound-pending, pending-records}
+use Rattle.rules.specs.Board.{Pending, board-of, pending-most, pending-of, in-range}
+use Rattle.rules.proofs.Boards.{read-is}
+use Rattle.table.proofs.Sound.{sound-told, sound-room}
+use borrow.Author.Needs.{needs}
+use Rattle.judge.proofs.tables.judge_pending.Statement.{statement}
+use Rattle.judge.proofs.tables.judge_pending.Tie as tie
+
+-- the rules' test, over the size that the code has asked for
+sound-is : (on : Horizon) (size used : ℕ) (xs : List ℕ) → size ≡ board-of on .table .size
+    → sound-pending (board-of on) used xs ≡ sound-table size pending-most used xs && every in-range (map pending-of (records size used xs))
+unfolding sound-pending pending-records
+sound-is on size used xs e =
+    ap₂ (λ (f : List ℕ → Pending) (n : ℕ). sound-table n pending-most used xs && every in-range (map f (records n used xs))) (read-is on) (sym e)
+
+first : (t : tie.Then1) → let a = t .before .before .before .before .args in sound-table (t .before .before .record-size .result) pending-most (a .used) (now (a .table)) ≡ true
+first t = sym (t .before .judge-table .ensures) ∙ t .if1 .taken
+
+record-size-requires : tie.Need-record-size-requires
+record-size-requires c κs = search needs
+
+judge-table-requires : tie.Need-judge-table-requires
+judge-table-requires c κs = search needs
+
+in-range-requires : tie.Need-in-range-requires
+in-range-requires c κs = (c .before .before .record-size .ensures .1, sound-room _ pending-most _ _ (sound-told _ _ _ _ (first c)))
+
+returns : tie.Need-returns
+returns c =
+    let t = c .before in
+    let a = t .before .before .before .before .args in
+    sym (sound-is (a .on) _ (a .used) (now (a .table)) (t .before .before .record-size .ensures .0) ∙ rw (first t, c .in-range .ensures))
+
+returns-2 : tie.Need-returns-2
+returns-2 c =
+    let a = c .before .before .before .before .args in
+    sym (sound-is (a .on) _ (a .used) (now (a .table)) (c .before .before .record-size .ensures .0) ∙ rw (sym (c .before .judge-table .ensures) ∙ c .if1 .left))
+
+pub judge-pending-spec : {M : Type 1} → statement M
+judge-pending-spec = tie.close (tie.spec record-size-requires judge-table-requires in-range-requires returns returns-2)
