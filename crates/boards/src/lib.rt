@@ -1,18 +1,27 @@
-// The numbers of the board that a horizon names.
+// What a horizon stands for in numbers: how wide a record and a column of its board are, how its counts decay, and from time to column.
+mod columns;
+
+pub use columns::column_of;
+pub use columns::first_column;
 use kinds::Blocks;
+use kinds::DECAY_FACTOR;
 use kinds::Horizon;
+use kinds::PENDING_SIZE;
+use kinds::WIDE_DECAY_FACTOR;
+use kinds::WIDE_WIDTH;
+use kinds::WIDTH;
 ghost use mathlib.Core.Path.{_≡_};
 ghost use Prim.Native.Nat.{_≤_, _<_};
-ghost use Rattle.rules.specs.Board.{board-of};
+ghost use Rattle.rules.specs.Board.{board-of, pending-size};
 
 // How many bytes a pending record takes: at least an id and three numbers.
 pub fn record_size(on: Horizon) -> usize
     ensures { λ r. ⌜ r ≡ board-of on .table .size ⌝ }
-    ensures { λ r. ⌜ 44 ≤ r ⌝ }
+    ensures { λ r. ⌜ pending-size ≤ r ⌝ }
 {
     match on {
-        Horizon::Base => 44,
-        Horizon::Wide => 44,
+        Horizon::Base => PENDING_SIZE,
+        Horizon::Wide => PENDING_SIZE,
     }
 }
 
@@ -22,8 +31,8 @@ pub fn width_of(on: Horizon) -> Blocks
     ensures { λ r. ⌜ 0 < r .0 ⌝ }
 {
     match on {
-        Horizon::Base => Blocks(1),
-        Horizon::Wide => Blocks(6),
+        Horizon::Base => Blocks(WIDTH),
+        Horizon::Wide => Blocks(WIDE_WIDTH),
     }
 }
 
@@ -32,7 +41,7 @@ pub fn factor_of(on: Horizon) -> f64
     ensures { λ r. ⌜ r ≡ board-of on .decay ⌝ }
 {
     match on {
-        Horizon::Base => 0.998,
-        Horizon::Wide => 0.9995,
+        Horizon::Base => DECAY_FACTOR,
+        Horizon::Wide => WIDE_DECAY_FACTOR,
     }
 }
