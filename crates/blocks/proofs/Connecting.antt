@@ -27,7 +27,32 @@ listings-seen : (k : Board) (s : State) (l : Lent) (is : List Id) → pending-li
 unfolding pending-listings view
 listings-seen k s l is = refl
 
-module _ (k : Board) (law : Lawful k) (s : State) (l : Lent) (r : Ready k s l) (ids : List ℕ) (B : ℕ) (small : B < 256 ^ 4) (room : s .recent + pending-listings k s l (ids-of ids) ≤ confirmed-capacity (l .recent)) where
+-- a block that is not refused, with all that its steps ask of it
+pub record Sure (k : Board) : Type 0 where
+  pub state : State
+  pub lent : Lent
+  pub ready : Ready k state lent
+  pub ids : List ℕ
+  pub height : ℕ
+  pub small : height < 256 ^ 4
+  pub room : state .recent + pending-listings k state lent (ids-of ids) ≤ confirmed-capacity (lent .recent)
+
+module _ (k : Board) (law : Lawful k) (b : Sure k) where
+  abbrev s : State
+  s = b .state
+
+  abbrev l : Lent
+  l = b .lent
+
+  abbrev r : Ready k s l
+  r = b .ready
+
+  abbrev is : List Id
+  is = ids-of (b .ids)
+
+  abbrev B : ℕ
+  B = b .height
+
   abbrev e : Estimator
   e = view k s l
 
@@ -35,15 +60,15 @@ module _ (k : Board) (law : Lawful k) (s : State) (l : Lent) (r : Ready k s l) (
   skipped = skip-heights k (s .last) B e
 
   abbrev listed : Estimator
-  listed = confirm-all k B (ids-of ids) skipped
+  listed = confirm-all k B is skipped
 
   listings : ℕ
-  listings = count (λ i. is-pending i (e .pending)) (ids-of ids)
+  listings = count (λ i. is-pending i (e .pending)) is
 
   -- there is room for all that the list may confirm
   enough : length (e .recent) + listings ≤ confirmed-capacity (l .recent)
   unfolding listings
-  enough = omega (arith, room, used-recent k law s l r, listings-seen k s l (ids-of ids))
+  enough = omega (arith, b .room, used-recent k law s l r, listings-seen k s l is)
 
   -- ---- after the skipped heights
 
@@ -56,11 +81,11 @@ module _ (k : Board) (law : Lawful k) (s : State) (l : Lent) (r : Ready k s l) (
   -- ---- after the listed ids
 
   listed-well : Well listed
-  listed-well = well-confirm-all k B skipped (ids-sized ids) small skipped-well
+  listed-well = well-confirm-all k B skipped (ids-sized (b .ids)) (b .small) skipped-well
 
   listed-room : Room k listed l
   unfolding listings view
-  listed-room = let w = within-listed k (ids-of ids) B e in record { pending = omega (arith, w .pending, r .room .pending); recent = omega (arith, w .recent, enough) }
+  listed-room = let w = within-listed k is B e in record { pending = omega (arith, w .pending, r .room .pending); recent = omega (arith, w .recent, enough) }
 
   -- ---- the steps
 
@@ -68,32 +93,32 @@ module _ (k : Board) (law : Lawful k) (s : State) (l : Lent) (r : Ready k s l) (
     pub ready-to-list : Ready k s₁ l₁
     ready-to-list = ready-after k law l skipped skipped-well skipped-room first
 
-    pub room-to-list : s₁ .recent + pending-listings k s₁ l₁ (ids-of ids) ≤ confirmed-capacity (l₁ .recent)
+    pub room-to-list : s₁ .recent + pending-listings k s₁ l₁ is ≤ confirmed-capacity (l₁ .recent)
     unfolding listings
     room-to-list =
         let w = within-skip k (s .last) B e in
         let seen : view k s₁ l₁ ≡ skipped = seen-after k law l skipped skipped-well first in
         let few : s₁ .recent ≡ length (skipped .recent) = sym (used-recent k law s₁ l₁ ready-to-list) ∙ ap (λ (x : Estimator). length (x .recent)) seen in
         let same : confirmed-capacity (l₁ .recent) ≡ confirmed-capacity (l .recent) = ap (λ (o : Outcome Lent). confirmed-capacity (o .lent .recent)) first ∙ same-recent k law skipped l skipped-well skipped-room in
-        let now-listed : pending-listings k s₁ l₁ (ids-of ids) ≡ count (λ i. is-pending i (skipped .pending)) (ids-of ids) =
-        listings-seen k s₁ l₁ (ids-of ids) ∙ ap (λ (x : Estimator). count (λ i. is-pending i (x .pending)) (ids-of ids)) seen in
-        let fewer = count-le (λ i. is-pending i (skipped .pending)) (λ i. is-pending i (e .pending)) (λ i h. w .ids i h) (ids-of ids) in
+        let now-listed : pending-listings k s₁ l₁ is ≡ count (λ i. is-pending i (skipped .pending)) is =
+        listings-seen k s₁ l₁ is ∙ ap (λ (x : Estimator). count (λ i. is-pending i (x .pending)) is) seen in
+        let fewer = count-le (λ i. is-pending i (skipped .pending)) (λ i. is-pending i (e .pending)) (λ i h. w .ids i h) is in
         omega (arith, w .recent, enough)
 
-    module _ (s₂ : State) (l₂ : Lent) (second : outcome done s₂ l₂ ≡ accepted k (confirm-all k B (ids-of ids) (view k s₁ l₁)) l₁) where
+    module _ (s₂ : State) (l₂ : Lent) (second : outcome done s₂ l₂ ≡ accepted k (confirm-all k B is (view k s₁ l₁)) l₁) where
       both : outcome done s₂ l₂ ≡ accepted k listed l
-      both = step-after k law l skipped (confirm-all k B (ids-of ids)) skipped-well skipped-room first second
+      both = step-after k law l skipped (confirm-all k B is) skipped-well skipped-room first second
 
       pub ready-to-finish : Ready k s₂ l₂
       ready-to-finish = ready-after k law l listed listed-well listed-room both
 
       -- it advances
       pub block-advanced : advances (s .last) B ≡ true → (s₃ : State) (l₃ : Lent) → outcome done s₃ l₃ ≡ accepted k (advance-height k B (view k s₂ l₂)) l₂
-          → outcome done s₃ l₃ ≡ accepted k (block-connected k (ids-of ids) B e) l
+          → outcome done s₃ l₃ ≡ accepted k (block-connected k is B e) l
       unfolding block-connected finish-block view
       block-advanced h s₃ l₃ third = step-after k law l listed (advance-height k B) listed-well listed-room both third ∙ sym (rw h)
 
       -- it does not
-      pub block-repeated : advances (s .last) B ≡ false → outcome done s₂ l₂ ≡ accepted k (block-connected k (ids-of ids) B e) l
+      pub block-repeated : advances (s .last) B ≡ false → outcome done s₂ l₂ ≡ accepted k (block-connected k is B e) l
       unfolding block-connected finish-block view
       block-repeated h = both ∙ sym (rw h)

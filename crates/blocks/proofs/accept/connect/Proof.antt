@@ -1,21 +1,30 @@
 -- `blocks::accept::connect` meets its contract: memory is ready for each step, and the steps are the definition's, by the laws of `Connecting`.
 -- Assumes nothing.
 use mathlib.Core.Path.{sym, _∙_}
-use Prim.Native.Nat.{_^_, _<_}
 use denote.Ref.{now}
-use Rattle.rules.specs.Board.{board-of}
+use Rattle.rules.specs.Board.{Board, board-of}
 use Rattle.rules.proofs.Boards.{board-lawful}
 use Rattle.rules.specs.Memory.{Lent, lent}
-use Rattle.blocks.proofs.Connecting.{ready-to-list, room-to-list, ready-to-finish, block-advanced, block-repeated}
+use Rattle.blocks.proofs.Connecting.{Sure, ready-to-list, room-to-list, ready-to-finish, block-advanced, block-repeated}
 use borrow.Author.Needs.{needs}
 use Rattle.blocks.proofs.accept.connect.Statement.{statement}
 use Rattle.blocks.proofs.accept.connect.Tie as tie
 
-abbrev given : tie.Start → Lent
-given s = lent (now (s .args .confirmed)) (now (s .args .resolved)) (now (s .args .pending)) (now (s .args .recent))
+abbrev board : tie.Start → Board
+board s = board-of (s .args .on)
 
-small : (s : tie.Start) → s .args .height .0 < 256 ^ 4
-small s = s .good .1 .1 .1 .1 .1 .1 .0 .1 .1 .0 .1
+abbrev given : (s : tie.Start) → Sure (board s)
+given s =
+    let a = s .args in
+    record {
+      state = a .state;
+      lent = lent (now (a .confirmed)) (now (a .resolved)) (now (a .pending)) (now (a .recent));
+      ready = s .pre .0;
+      ids = now (a .ids);
+      height = a .height .0;
+      small = s .good .1 .1 .1 .1 .1 .1 .0 .1 .1 .0 .1;
+      room = s .pre .1;
+    }
 
 -- the memory after the skipped heights, and after the listed ids
 abbrev start : tie.After-skip-heights → tie.Start
@@ -37,9 +46,9 @@ confirm-all-requires : tie.Need-confirm-all-requires
 confirm-all-requires c κs =
     let k = c .before .before .before .before .before .before .before .before .before .before .before .before in
     let s = start k in
-    let a = s .args in (
-      ready-to-list (board-of (a .on)) (board-lawful (a .on)) (a .state) (given s) (s .pre .0) (now (a .ids)) (a .height .0) (small s) (s .pre .1) (k .skip-heights .result) (skipped k) (k .skip-heights .ensures),
-      room-to-list (board-of (a .on)) (board-lawful (a .on)) (a .state) (given s) (s .pre .0) (now (a .ids)) (a .height .0) (small s) (s .pre .1) (k .skip-heights .result) (skipped k) (k .skip-heights .ensures),
+    (
+      ready-to-list (board s) (board-lawful (s .args .on)) (given s) (k .skip-heights .result) (skipped k) (k .skip-heights .ensures),
+      room-to-list (board s) (board-lawful (s .args .on)) (given s) (k .skip-heights .result) (skipped k) (k .skip-heights .ensures),
     )
 
 advances-requires : tie.Need-advances-requires
@@ -50,8 +59,7 @@ advance-height-requires c κs =
     let n = c .before .before .before .before .before .before .before .before .before .before .before .before .before .before in
     let k = first n in
     let s = start k in
-    let a = s .args in
-    ready-to-finish (board-of (a .on)) (board-lawful (a .on)) (a .state) (given s) (s .pre .0) (now (a .ids)) (a .height .0) (small s) (s .pre .1) (k .skip-heights .result) (skipped k) (k .skip-heights .ensures)
+    ready-to-finish (board s) (board-lawful (s .args .on)) (given s) (k .skip-heights .result) (skipped k) (k .skip-heights .ensures)
     (n .confirm-all .result) (listed n) (n .confirm-all .ensures)
 
 same-length : tie.Need-same-length
@@ -85,8 +93,7 @@ returns c =
     let n = o .before .before .before .before .before .before .before .before .before .before .before .before .before .before .before in
     let k = first n in
     let s = start k in
-    let a = s .args in
-    block-advanced (board-of (a .on)) (board-lawful (a .on)) (a .state) (given s) (s .pre .0) (now (a .ids)) (a .height .0) (small s) (s .pre .1) (k .skip-heights .result) (skipped k) (k .skip-heights .ensures)
+    block-advanced (board s) (board-lawful (s .args .on)) (given s) (k .skip-heights .result) (skipped k) (k .skip-heights .ensures)
     (n .confirm-all .result) (listed n) (n .confirm-all .ensures) (sym (t .before .advances .ensures) ∙ t .if1 .taken) (o .advance-height .result) _ (o .advance-height .ensures)
 
 same-length-5 : tie.Need-same-length-5
@@ -106,8 +113,7 @@ returns-2 c =
     let n = c .before .before .before .before .before .before .before .before .before .before in
     let k = first n in
     let s = start k in
-    let a = s .args in
-    block-repeated (board-of (a .on)) (board-lawful (a .on)) (a .state) (given s) (s .pre .0) (now (a .ids)) (a .height .0) (small s) (s .pre .1) (k .skip-heights .result) (skipped k) (k .skip-heights .ensures)
+    block-repeated (board s) (board-lawful (s .args .on)) (given s) (k .skip-heights .result) (skipped k) (k .skip-heights .ensures)
     (n .confirm-all .result) (listed n) (n .confirm-all .ensures) (sym (c .before .advances .ensures) ∙ c .if1 .left)
 
 pub connect-spec : {M : Type 1} → statement M
