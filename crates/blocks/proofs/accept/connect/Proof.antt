@@ -45,8 +45,7 @@ skip-heights-requires c κs = search needs
 confirm-all-requires : tie.Need-confirm-all-requires
 confirm-all-requires c κs =
     let k = c .before .before .before .before .before .before .before .before .before .before .before .before in
-    let s = start k in
-    (
+    let s = start k in (
       ready-to-list (board s) (board-lawful (s .args .on)) (given s) (k .skip-heights .result) (skipped k) (k .skip-heights .ensures),
       room-to-list (board s) (board-lawful (s .args .on)) (given s) (k .skip-heights .result) (skipped k) (k .skip-heights .ensures),
     )
