@@ -1,8 +1,16 @@
-// What a horizon stands for in numbers: the size of a record, the width of a column, the factor, and from time to column.
+// What a horizon stands for in numbers: how wide a record and a column of its board are, how its counts decay, and from time to column.
+mod columns;
 mod waits;
 
+pub use columns::column_of;
+pub use columns::first_column;
 use kinds::Blocks;
+use kinds::DECAY_FACTOR;
 use kinds::Horizon;
+use kinds::PENDING_SIZE;
+use kinds::WIDE_DECAY_FACTOR;
+use kinds::WIDE_WIDTH;
+use kinds::WIDTH;
 pub use waits::outwaited;
 pub use waits::waited;
 ghost use mathlib.Core.Path.{_≡_};
@@ -15,8 +23,8 @@ pub fn record_size(on: Horizon) -> usize
     ensures { λ r. ⌜ pending-size ≤ r ⌝ }
 {
     match on {
-        Horizon::Base => kinds::PENDING_SIZE,
-        Horizon::Wide => kinds::PENDING_SIZE,
+        Horizon::Base => PENDING_SIZE,
+        Horizon::Wide => PENDING_SIZE,
     }
 }
 
@@ -26,8 +34,8 @@ pub fn width_of(on: Horizon) -> Blocks
     ensures { λ r. ⌜ 0 < r .0 ⌝ }
 {
     match on {
-        Horizon::Base => Blocks(kinds::WIDTH),
-        Horizon::Wide => Blocks(kinds::WIDE_WIDTH),
+        Horizon::Base => Blocks(WIDTH),
+        Horizon::Wide => Blocks(WIDE_WIDTH),
     }
 }
 
@@ -36,7 +44,7 @@ pub fn factor_of(on: Horizon) -> f64
     ensures { λ r. ⌜ r ≡ board-of on .decay ⌝ }
 {
     match on {
-        Horizon::Base => kinds::DECAY_FACTOR,
-        Horizon::Wide => kinds::WIDE_DECAY_FACTOR,
+        Horizon::Base => DECAY_FACTOR,
+        Horizon::Wide => WIDE_DECAY_FACTOR,
     }
 }

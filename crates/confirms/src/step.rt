@@ -30,7 +30,7 @@ fn count(confirmed: &mut [f64], resolved: &mut [f64], r: PendingEntry, h: Height
 {
     let bucket = r.bucket;
     let through = r.through;
-    let first = counts::first_column(waited(r.entry, h), boards::width_of(on));
+    let first = boards::first_column(waited(r.entry, h), boards::width_of(on));
     counts::count_confirmation(confirmed, resolved, bucket as usize, through, first);
 }
 

@@ -1,5 +1,5 @@
 // THE PUBLIC CALLS, of the base board. Each is what its definition in rules/specs/Calls or format/specs/Calls says, for every input; none asks anything of
-// its caller. The bodies are in `calls` and `history`.
+// its caller. The bodies are in `starts`, `entries`, `blocks`, `estimates` and `history`.
 use kinds::Blocks;
 use kinds::Connected;
 use kinds::Entered;
@@ -32,7 +32,7 @@ pub fn new(
         outcome (start-answer (r .answer)) (r .state) (after confirmed resolved pending recent)
         ≡ start-call base (before confirmed resolved pending recent) ⌝ }
 {
-    calls::new(confirmed, resolved, pending, recent, Horizon::Base)
+    starts::new(confirmed, resolved, pending, recent, Horizon::Base)
 }
 
 // Enter (id, rate, height).
@@ -45,14 +45,14 @@ pub fn tx_entered(
 ) -> Entered
     ensures { λ r. ⌜ outcome (enter-answer (r .answer)) (r .state) (now (pending .exit)) ≡ enter-call base state (now (pending .entry)) (now (id .entry)) rate height ⌝ }
 {
-    calls::tx_entered(state, pending, id, rate, height, Horizon::Base)
+    entries::tx_entered(state, pending, id, rate, height, Horizon::Base)
 }
 
 // Leave (id).
 pub fn tx_left(state: State, pending: &mut [u8], id: &[u8; 32]) -> Left
     ensures { λ r. ⌜ outcome (leave-answer (r .answer)) (r .state) (now (pending .exit)) ≡ leave-call base state (now (pending .entry)) (now (id .entry)) ⌝ }
 {
-    calls::tx_left(state, pending, id, Horizon::Base)
+    entries::tx_left(state, pending, id, Horizon::Base)
 }
 
 // Block (ids, height).
@@ -69,7 +69,7 @@ pub fn block_connected(
         outcome (block-answer (r .answer)) (r .state) (after confirmed resolved pending recent)
         ≡ block-call base state (before confirmed resolved pending recent) (now (ids .entry)) height ⌝ }
 {
-    calls::block_connected(
+    blocks::block_connected(
         state,
         confirmed,
         resolved,
@@ -85,7 +85,7 @@ pub fn block_connected(
 pub fn estimate(state: State, confirmed: &[f64], resolved: &[f64], target: Blocks) -> Estimated
     ensures { λ r. ⌜ estimate-answer r ≡ estimate-call base state (now (confirmed .entry)) (now (resolved .entry)) target ⌝ }
 {
-    calls::estimate(state, confirmed, resolved, target, Horizon::Base)
+    estimates::estimate(state, confirmed, resolved, target, Horizon::Base)
 }
 
 // The bucket that a rate belongs to.

@@ -1,0 +1,101 @@
+-- `blocks::refuse::judge_block` meets its contract: each of its answers is the definition's, by the laws of `Judging`. Assumes nothing.
+use mathlib.Core.Path.{_≡_, sym, _∙_}
+use mathlib.Core.Bool.{true}
+use Prim.Native.Nat.{_≤_}
+use native.Mathlib.Omega.{arith}
+use borrow.Author.Tests.{not-true, not-false}
+use denote.Ref.{now}
+use Rattle.rules.specs.Board.{Board, board-of}
+use Rattle.rules.specs.Memory.{lent, sound}
+use Rattle.rules.specs.Calls.{gap, widest-gap, pending-listings}
+use Rattle.blocks.proofs.Judging.{Block, pending-sound, recent-within, answer-damaged, answer-list, answer-gap, answer-full, answer-done}
+use borrow.Author.Needs.{needs}
+use Rattle.blocks.proofs.refuse.judge_block.Statement.{statement}
+use Rattle.blocks.proofs.refuse.judge_block.Tie as tie
+
+abbrev given : tie.Start → Block
+given s =
+    let a = s .args in
+    record { state = a .state; lent = lent (now (a .confirmed)) (now (a .resolved)) (now (a .pending)) (now (a .recent)); ids = now (a .ids); height = a .height }
+
+abbrev board : tie.Start → Board
+board s = board-of (s .args .on)
+
+abbrev start : tie.Else1 → tie.Start
+start c = c .before .before .before .before .before .before .before
+
+-- past the first test the memory is sound
+is-sound : (c : tie.Else1) → let s = start c in sound (board s) (given s .state) (given s .lent) ≡ true
+is-sound c = sym (c .before .judge-memory .ensures) ∙ not-false _ (c .if1 .left)
+
+-- past the third the gap is not too wide
+abbrev second : tie.Else3 → tie.Else2
+second c = c .before .before .before
+
+narrow : (c : tie.Else3) → let s = start (second c .before) in gap (given s .state .last) (given s .height) ≤ widest-gap
+narrow c = omega (arith, c .before .before .gap .ensures, c .if3 .left)
+
+judge-memory-requires : tie.Need-judge-memory-requires
+judge-memory-requires c κs = search needs
+
+returns : tie.Need-returns
+returns c =
+    let s = c .before .before .before .before .before .before .before in
+    answer-damaged (board s) (given s) (sym (c .before .judge-memory .ensures) ∙ not-true _ (c .if1 .taken))
+
+returns-2 : tie.Need-returns-2
+returns-2 c = let s = start (c .before) in answer-list (board s) (given s) (is-sound (c .before)) (c .if2 .taken)
+
+gap-requires : tie.Need-gap-requires
+gap-requires c κs = search needs
+
+returns-3 : tie.Need-returns-3
+returns-3 c =
+    let w = c .before .before .before in
+    let s = start (w .before) in
+    answer-gap (board s) (given s) (is-sound (w .before)) (w .if2 .left) (omega (arith, c .before .before .gap .ensures, c .if3 .taken))
+
+capacity-requires : tie.Need-capacity-requires
+capacity-requires c κs = search needs
+
+sub-free : tie.Need-sub-free
+sub-free c =
+    let e = second (c .before) .before in
+    omega (arith, c .capacity .ensures, recent-within (board (start e)) (given (start e) .state) (given (start e) .lent) (is-sound e))
+
+pending-listings-requires : tie.Need-pending-listings-requires
+pending-listings-requires c κs = let e = second (c .before) .before in pending-sound (board (start e)) (given (start e) .state) (given (start e) .lent) (is-sound e)
+
+returns-4 : tie.Need-returns-4
+unfolding pending-listings
+returns-4 c =
+    let n = c .before in
+    let g = n .before .before in
+    let e = second g .before in
+    let s = start e in
+    answer-full (board s) (given s) (is-sound e) (second g .if2 .left) (narrow g) (omega (arith, n .before .capacity .ensures, n .pending-listings .ensures, c .if4 .taken))
+
+returns-5 : tie.Need-returns-5
+unfolding pending-listings
+returns-5 c =
+    let n = c .before in
+    let g = n .before .before in
+    let e = second g .before in
+    let s = start e in
+    answer-done (board s) (given s) (is-sound e) (second g .if2 .left) (narrow g)
+    (omega (arith, n .before .capacity .ensures, n .pending-listings .ensures, c .if4 .left, recent-within (board s) (given s .state) (given s .lent) (is-sound e)))
+
+pub judge-block-spec : {M : Type 1} → statement M
+judge-block-spec =
+    tie.close
+    (tie.spec
+    judge-memory-requires
+    returns
+    returns-2
+    gap-requires
+    returns-3
+    capacity-requires
+    sub-free
+    pending-listings-requires
+    returns-4
+    returns-5)

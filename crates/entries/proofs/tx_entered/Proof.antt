@@ -1,0 +1,164 @@
+-- `entries::tx_entered` meets its contract: each of its answers is the definition's, by the laws of `Searched`. Assumes nothing.
+use mathlib.Core.Path.{_≡_, sym, ap, _∙_}
+use mathlib.Core.Bool.{true}
+use Prim.Native.Nat.{ℕ, _+_, _*_, _<_, _≤_}
+use native.Mathlib.Omega.{arith}
+use borrow.Author.Tests.{not-true, not-false}
+use denote.Ref.{now}
+use lib.ListN.{length}
+use Rattle.rules.specs.Board.{Board, board-of, pending-most}
+use Rattle.rules.proofs.Boards.{board-lawful}
+use Rattle.rules.specs.Records.{capacity}
+use Rattle.rules.specs.Memory.{pending-capacity, sound-pending}
+use Rattle.rules.proofs.Rates.{bucket-lt}
+use Rattle.rules.proofs.Memory.{pending-table, pending-within}
+use Rattle.table.specs.declared.Found.the-variants.{Gap}
+use Rattle.rules.proofs.Bytes.{are-bytes}
+use Rattle.table.proofs.ById.{searchable, told, gap-used}
+use Rattle.entries.proofs.Searched.{Given, Ends, one-more, enter-damaged, enter-there, enter-full, enter-done}
+use borrow.Author.Needs.{needs}
+use Rattle.entries.proofs.tx_entered.Statement.{statement}
+use Rattle.entries.proofs.tx_entered.Tie as tie
+
+abbrev given : tie.Start → Given
+given s = record { state = s .args .state; table = now (s .args .pending); id = now (s .args .id) }
+
+abbrev start : tie.Else1 → tie.Start
+start c = c .before .before .before .before
+
+abbrev board : tie.Start → Board
+board s = board-of (s .args .on)
+
+-- past the first test the table is sound
+sound : (c : tie.Else1) → sound-pending (board (start c)) (given (start c) .state .pending) (given (start c) .table) ≡ true
+sound c = sym (c .before .judge-pending .ensures) ∙ not-false _ (c .if1 .left)
+
+-- where the search ends in a gap
+abbrev searched : tie.After-at → tie.Else1
+searched c = c .before .before .before .before .before .before
+
+gap : (c : tie.After-at) → let s = start (searched c) in Ends (board s) (board-lawful (s .args .on)) (given s) (Gap (c .at .given .0 .0))
+gap c = told _ _ _ _ _ (c .before .before .before .before .before .record-size .ensures .0) (c .before .before .find .ensures) (c .at .given .1)
+
+-- and the table is not full
+abbrev missed : tie.Else2 → tie.After-at
+missed c = c .before .before .before .before
+
+full-at : (c : tie.After-capacity) → let s = start (searched (c .before .before .before)) in c .capacity .result ≡ pending-capacity (board s) (given s .table)
+full-at c = let s = start (searched (c .before .before .before)) in c .capacity .ensures ∙ ap (λ (n : ℕ). capacity n pending-most (given s .table)) (c .before .before .before .before .before .before .before .before .record-size .ensures .0)
+
+room : (c : tie.Else2) → let s = start (searched (missed c)) in
+    (given s .state .pending < pending-capacity (board s) (given s .table)) × (given s .state .pending * board s .table .size + board s .table .size ≤ length (given s .table))
+room c =
+    let e = searched (missed c) in
+    let k = board (start e) in
+    let g = given (start e) in
+    let less : g .state .pending < pending-capacity k (g .table) = omega (arith, full-at (c .before), pending-within k (g .state .pending) (g .table) (sound e), c .if2 .left) in
+    (less, one-more (k .table .size) (g .state .pending) (g .table) less)
+
+judge-pending-requires : tie.Need-judge-pending-requires
+judge-pending-requires c κs = search needs
+
+same-length : tie.Need-same-length
+same-length c = search needs
+
+returns : tie.Need-returns
+returns c = let s = c .before .before .before .before in enter-damaged (board s) (board-lawful (s .args .on)) (given s) (s .args .rate) (s .args .height) (sym (c .before .judge-pending .ensures) ∙ not-true _ (c .if1 .taken))
+
+record-size-requires : tie.Need-record-size-requires
+record-size-requires c κs = search needs
+
+find-requires : tie.Need-find-requires
+find-requires c κs =
+    let e = c .before .before .before in
+    let k = board (start e) in
+    let g = given (start e) in
+    let z = c .before .before .record-size .ensures in
+    searchable _ _ pending-most (g .state .pending) (g .table) (g .id) (z .0) (omega (arith, z .1)) (pending-table k (g .state .pending) (g .table) (sound e)) (search needs)
+
+enum-told : tie.Need-enum-told
+enum-told c = search needs
+
+enum-known-at : tie.Need-enum-known-at
+enum-known-at c = search needs
+
+capacity-requires : tie.Need-capacity-requires
+capacity-requires c κs = search needs
+
+same-length-2 : tie.Need-same-length-2
+same-length-2 c = search needs
+
+returns-2 : tie.Need-returns-2
+returns-2 c =
+    let g = c .before .before .before .before in
+    let e = searched g in
+    enter-full (board (start e)) (board-lawful (start e .args .on)) (given (start e)) (sound e) (start e .args .rate) (start e .args .height) (g .at .given .0 .0) (gap g) (c .if2 .taken ∙ full-at (c .before))
+
+bucket-index-for-rate-requires : tie.Need-bucket-index-for-rate-requires
+bucket-index-for-rate-requires c κs = search needs
+
+cast-bucket : tie.Need-cast-bucket
+cast-bucket c = omega (arith, c .bucket-index-for-rate .ensures, bucket-lt (start (searched (missed (c .before))) .args .rate .0))
+
+insert-pending-requires : tie.Need-insert-pending-requires
+insert-pending-requires c κs =
+    let o = c .before .before .before in
+    let g = missed o in
+    let e = searched g in
+    let k = given (start e) in
+    ((gap-used (board (start e) .table .size) (k .state .pending) (g .at .given .0 .0) (k .table) (k .id) (gap g), room o .1), search needs)
+
+add-with-pending : tie.Need-add-with-pending
+add-with-pending c = omega (arith, room (c .before .before .before .before .before .before))
+
+with-pending-requires : tie.Need-with-pending-requires
+with-pending-requires c κs = search needs
+
+same-length-3 : tie.Need-same-length-3
+same-length-3 c = search needs
+
+returns-3 : tie.Need-returns-3
+returns-3 c =
+    let e = c .before .before .before .before .before .before in
+    let w = c .enum-told .given in
+    let z = c .before .before .before .before .before .record-size .ensures .0 in
+    enter-there (board (start e)) (board-lawful (start e .args .on)) (given (start e)) (sound e) (start e .args .rate) (start e .args .height) (w .0 .0) (told _ _ _ _ _ z (c .before .before .find .ensures) (w .1))
+
+same-length-4 : tie.Need-same-length-4
+same-length-4 c = search needs
+
+returns-4 : tie.Need-returns-4
+returns-4 c =
+    let put = c .before .before .before in
+    let n = put .before .before .before in
+    let o = n .before in
+    let g = missed o in
+    let e = searched g in
+    let a = start e .args in
+    enter-done (board (start e)) (board-lawful (a .on)) (given (start e)) (sound e) (a .rate) (a .height) (g .at .given .0 .0) (gap g) (room o .0)
+    (put .insert-pending .last .0) (are-bytes (put .insert-pending .last .0) (λ i. c .before .slice-known2 .given i .fits)) (search needs) (start e .good .1 .1 .1 .1 .0 .1 .1 .0 .1)
+    (n .bucket-index-for-rate .result) (n .bucket-index-for-rate .ensures) (put .insert-pending .ensures) (c .with-pending .result) (c .with-pending .ensures)
+
+pub tx-entered-spec : {M : Type 1} → statement M
+tx-entered-spec =
+    tie.close
+    (tie.spec
+    judge-pending-requires
+    same-length
+    returns
+    record-size-requires
+    find-requires
+    enum-told
+    enum-known-at
+    capacity-requires
+    same-length-2
+    returns-2
+    bucket-index-for-rate-requires
+    cast-bucket
+    insert-pending-requires
+    add-with-pending
+    with-pending-requires
+    same-length-3
+    returns-3
+    same-length-4
+    returns-4)
