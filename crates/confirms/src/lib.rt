@@ -36,7 +36,7 @@ pub fn pending_listings(pending: &[u8], used: usize, ids: &[u8], on: Horizon) ->
     n
 }
 
-// The listed ids in order.
+// Confirms the listed ids at h, one after the other.
 pub fn confirm_all(
     state: State,
     confirmed: &mut [f64],

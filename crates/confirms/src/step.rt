@@ -14,7 +14,8 @@ ghost use lib.Dec.{leb, ltb};
 ghost use lib.ListN.{length};
 ghost use Rattle.kinds.specs.Answers.{done};
 ghost use Rattle.rules.specs.Lists.{bit};
-ghost use Rattle.rules.specs.Counts.{gain};
+ghost use Rattle.rules.specs.Ladder.{last-bucket};
+ghost use Rattle.rules.specs.Counts.{places-of-counts, gain};
 ghost use Rattle.rules.specs.Board.{board-of};
 ghost use Rattle.rules.specs.Estimator.{is-pending, find, wait, record-confirmation, confirm};
 ghost use Rattle.rules.specs.Memory.{view, pending-records, confirmed-capacity};
@@ -24,7 +25,7 @@ ghost use Rattle.ready.specs.Ready.{Ready};
 
 // Counts the confirmation at h of a pending record.
 fn count(confirmed: &mut [f64], resolved: &mut [f64], r: PendingEntry, h: Height, on: Horizon)
-    requires { ⌜ (r .bucket ≤ 141) × (3550 ≤ length (now confirmed)) × (3550 ≤ length (now resolved)) ⌝ }
+    requires { ⌜ (r .bucket ≤ last-bucket) × (places-of-counts ≤ length (now confirmed)) × (places-of-counts ≤ length (now resolved)) ⌝ }
     ensures { λ _. ⌜ now (confirmed .exit) ≡ gain (r .bucket) (λ c. leb (wait (h .0) (r .entry .0)) (board-of on .width * c)) (now (confirmed .entry)) ⌝ }
     ensures { λ _. ⌜ now (resolved .exit) ≡ gain (r .bucket) (λ c. ltb (r .through) c) (now (resolved .entry)) ⌝ }
 {
@@ -34,7 +35,7 @@ fn count(confirmed: &mut [f64], resolved: &mut [f64], r: PendingEntry, h: Height
     counts::count_confirmation(confirmed, resolved, bucket as usize, through, first);
 }
 
-// If the id is pending, it goes, its confirmed height becomes h, and it is counted.
+// Counts the confirmation of an id that is pending: its pending record goes, and its confirmed height becomes h.
 fn record_confirmation(
     state: State,
     confirmed: &mut [f64],
@@ -80,7 +81,7 @@ fn record_confirmation(
     }
 }
 
-// A listed id. If its confirmed record holds exactly h, the pending record goes uncounted.
+// Confirms a listed id at h; if its confirmed record holds exactly h already, its pending record goes uncounted.
 pub fn confirm(
     state: State,
     confirmed: &mut [f64],

@@ -1,4 +1,5 @@
 // Heights advanced over the lent memory, one by one.
+use kinds::Blocks;
 use kinds::Height;
 use kinds::Horizon;
 use kinds::Last;
@@ -13,7 +14,7 @@ ghost use Rattle.rules.specs.Slices.{given, before, after};
 ghost use Rattle.rules.specs.Calls.{outcome, accepted};
 ghost use Rattle.ready.specs.Ready.{Ready};
 
-// Height h: pending records gain what they have outwaited, every count decays, and old confirmed records go.
+// Advances height h: pending records gain what they have outwaited, every count decays, and old confirmed records go.
 pub fn advance_height(
     state: State,
     confirmed: &mut [f64],
@@ -40,7 +41,7 @@ pub fn advance_height(
     }
 }
 
-// The n heights after `low`, one by one.
+// Advances the n heights after `low`, one by one.
 fn advance_heights(
     state: State,
     confirmed: &mut [f64],
@@ -48,34 +49,28 @@ fn advance_heights(
     pending: &mut [u8],
     recent: &mut [u8],
     low: Height,
-    n: u32,
+    n: Blocks,
     on: Horizon,
 ) -> State
     requires { ⌜ Ready (board-of on) state (given confirmed resolved pending recent) ⌝ }
-    requires { ⌜ low .0 + n < 2 ^ 32 ⌝ }
+    requires { ⌜ low .0 + n .0 < 2 ^ 32 ⌝ }
     ensures { λ r. ⌜
         outcome done r (after confirmed resolved pending recent)
-        ≡ accepted (board-of on) (advance-heights (board-of on) (low .0) n (view (board-of on) state (before confirmed resolved pending recent))) (before confirmed resolved pending recent) ⌝ }
+        ≡ accepted (board-of on) (advance-heights (board-of on) (low .0) (n .0) (view (board-of on) state (before confirmed resolved pending recent))) (before confirmed resolved pending recent) ⌝ }
 {
     let from = low.0;
+    let count = n.0;
     let mut s = state;
     let mut i: u32 = 0;
-    while i < n {
+    while i < count {
         i += 1;
-        s = advance_height(
-            s,
-            confirmed,
-            resolved,
-            pending,
-            recent,
-            Height(from + i),
-            on,
-        );
+        let next = from + i;
+        s = advance_height(s, confirmed, resolved, pending, recent, Height(next), on);
     }
     s
 }
 
-// If there is a last height, every height strictly between it and h.
+// Advances every height strictly between the last height, if there is one, and h.
 pub fn skip_heights(
     state: State,
     confirmed: &mut [f64],
@@ -99,6 +94,7 @@ pub fn skip_heights(
     if to <= from {
         return state;
     }
+    let between = to - from - 1;
     advance_heights(
         state,
         confirmed,
@@ -106,7 +102,7 @@ pub fn skip_heights(
         pending,
         recent,
         low,
-        to - from - 1,
+        Blocks(between),
         on,
     )
 }

@@ -11,30 +11,30 @@ use Rattle.heights.proofs.advance_heights.Statement.{statement}
 use Rattle.heights.proofs.advance_heights.Tie as tie
 
 abbrev Inv-loop : tie.InvT-loop
-Inv-loop confirmed₀ resolved₀ pending₀ recent₀ n on from s₀ i₀ confirmed resolved pending recent s i =
-    Going (board-of on) from n s₀ (lent confirmed₀ resolved₀ pending₀ recent₀) s (lent confirmed resolved pending recent) i
+Inv-loop confirmed₀ resolved₀ pending₀ recent₀ on from count s₀ i₀ confirmed resolved pending recent s i =
+    Going (board-of on) from count s₀ (lent confirmed₀ resolved₀ pending₀ recent₀) s (lent confirmed resolved pending recent) i
 
 abbrev μ-loop : tie.MeasureT-loop
-μ-loop confirmed₀ resolved₀ pending₀ recent₀ n on from s₀ i₀ confirmed resolved pending recent s i = n - i
+μ-loop confirmed₀ resolved₀ pending₀ recent₀ on from count s₀ i₀ confirmed resolved pending recent s i = count - i
 
 -- the memory at entry
 abbrev given : tie.Start Inv-loop μ-loop → Lent
 given s = lent (now (s .args .confirmed)) (now (s .args .resolved)) (now (s .args .pending)) (now (s .args .recent))
 
 loop-holds : tie.Need-loop-holds Inv-loop μ-loop
-loop-holds c = let s = c .before .before .before .before in start (board-of (s .args .on)) (board-lawful (s .args .on)) (s .args .low .0) (s .args .n) (s .args .state) (given s) (s .pre .0)
+loop-holds c = let s = c .before .before .before .before in start (board-of (s .args .on)) (board-lawful (s .args .on)) (s .args .low .0) (s .args .n .0) (s .args .state) (given s) (s .pre .0)
 
 add-i : tie.Need-add-i Inv-loop μ-loop
 add-i c = omega arith
 
-add-t21 : tie.Need-add-t21 Inv-loop μ-loop
-add-t21 c = omega arith
+add-next : tie.Need-add-next Inv-loop μ-loop
+add-next c = omega arith
 
 advance-height-requires : tie.Need-advance-height-requires Inv-loop μ-loop
 advance-height-requires c κs =
     let l = c .before .before .before .before .before in
     let s = l .before .before .before .before .before in
-    ready-still (board-of (s .args .on)) (board-lawful (s .args .on)) (s .args .low .0) (s .args .n) (s .args .state) (given s) (s .pre .0) (l .loop .inv)
+    ready-still (board-of (s .args .on)) (board-lawful (s .args .on)) (s .args .low .0) (s .args .n .0) (s .args .state) (given s) (s .pre .0) (l .loop .inv)
 
 loop-less : tie.Need-loop-less Inv-loop μ-loop
 loop-less c = omega arith
@@ -46,7 +46,7 @@ loop-again c =
     let t = u .before .before .before .before .before in
     let l = t .before in
     let s = l .before .before .before .before .before in
-    next (board-of (s .args .on)) (board-lawful (s .args .on)) (s .args .low .0) (s .args .n) (s .args .state) (given s) (s .pre .0) (l .loop .inv) (t .loop-test .taken)
+    next (board-of (s .args .on)) (board-lawful (s .args .on)) (s .args .low .0) (s .args .n .0) (s .args .state) (given s) (s .pre .0) (l .loop .inv) (t .loop-test .taken)
     (record { confirmed = k .kept .1 .0; resolved = k .kept .1 .1 .0; pending = k .kept .1 .1 .1 .0; recent = k .kept .1 .1 .1 .1 .0 }) (k .ensures)
 
 same-length : tie.Need-same-length Inv-loop μ-loop
@@ -64,7 +64,7 @@ same-length-4 c = c .before .loop .inv .long .recent
 returns : tie.Need-returns Inv-loop μ-loop
 returns c =
     let s = c .before .before .before .before .before .before in
-    stop (board-of (s .args .on)) (board-lawful (s .args .on)) (s .args .low .0) (s .args .n) (s .args .state) (given s) (s .pre .0) (c .before .loop .inv) (c .loop-test .left)
+    stop (board-of (s .args .on)) (board-lawful (s .args .on)) (s .args .low .0) (s .args .n .0) (s .args .state) (given s) (s .pre .0) (c .before .loop .inv) (c .loop-test .left)
 
 pub advance-heights-spec : {M : Type 1} → statement M
 advance-heights-spec =
@@ -74,7 +74,7 @@ advance-heights-spec =
     μ-loop
     loop-holds
     add-i
-    add-t21
+    add-next
     advance-height-requires
     loop-less
     loop-again

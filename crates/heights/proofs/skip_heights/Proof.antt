@@ -31,11 +31,11 @@ returns-2 c =
     let s = c .before .before .before .before .before .before .before .before in
     none-between (board-of (s .args .on)) (board-lawful (s .args .on)) (s .args .state) (given s) (s .args .h .0) (s .pre) (last .given .1) (c .if1 .taken)
 
-sub-advance-heights : tie.Need-sub-advance-heights
-sub-advance-heights c = search needs
+sub-between : tie.Need-sub-between
+sub-between c = search needs
 
-sub-advance-heights-2 : tie.Need-sub-advance-heights-2
-sub-advance-heights-2 c = search needs
+sub-between-2 : tie.Need-sub-between-2
+sub-between-2 c = search needs
 
 advance-heights-requires : tie.Need-advance-heights-requires
 advance-heights-requires c κs = search needs
@@ -67,8 +67,8 @@ skip-heights-spec =
     enum-told
     returns
     returns-2
-    sub-advance-heights
-    sub-advance-heights-2
+    sub-between
+    sub-between-2
     advance-heights-requires
     same-length
     same-length-2
