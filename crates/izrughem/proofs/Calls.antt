@@ -2,19 +2,24 @@
 -- Assumes nothing.
 use mathlib.Core.Path.{_≡_, refl, sym, ap, ap₂, _∙_}
 use mathlib.Core.Bool.{Bool, true, false, _&&_}
+use mathlib.Core.Logic.{⊎-elim}
 use mathlib.Core.List.{List, [], _∷_}
-use Prim.Native.Nat.{ℕ, _≤_}
+use Prim.Native.Nat.{ℕ}
 use native.Mathlib.Nat.{pos-of-ne-zero}
 use native.Mathlib.Omega.{arith}
 use borrow.Author.Tests.{le-leb, lt-leb}
 use lib.Dec.{leb}
 use lib.ListN.{length}
+use types.Run.{OneOf}
+use denote.Enum.Declared.{tagOf}
 use Rattle.kinds.specs.declared.State.{State}
-use Rattle.kinds.specs.Answers.{Answer}
+use Rattle.kinds.specs.declared.ReadAnswer.{ReadAnswer}
+use Rattle.kinds.proofs.ReadAnswer.{the-type}
+use Rattle.kinds.specs.Answers.{Answer, read-answer}
 use Rattle.rules.specs.Calls.{Outcome, outcome}
 use Rattle.format.specs.Calls.{Output, output}
-use Rattle.izrughem.specs.Words.{put-state}
-use Rattle.izrughem.specs.Calls.{Seen, seen, if-fit, told, put-if-done, carry, begun, rate-carried, length-carried}
+use Rattle.izrughem.specs.Words.{put-state, put-if-done}
+use Rattle.izrughem.specs.Calls.{Seen, seen, if-fit, told, carry, begun, rate-carried, length-carried}
 
 -- ---- what fits
 
@@ -52,10 +57,19 @@ module _ {L : Type 0} (ws : List ℕ) (a : Answer) (s : State) (l : L) (o : Outc
   tells n vs p q = ap₂ (λ (m : ℕ) (us : List ℕ). seen m us [] l) p q ∙ ap (told ws) e
 
   -- a call that begins a run
-  pub begins : (cs : List ℕ) (n : ℕ) (vs ds : List ℕ) → n ≡ a .number → vs ≡ put-if-done a s ws → ds ≡ carry (a .carries) cs → seen n vs ds l ≡ begun ws cs o
+  pub begins : (cs : List ℕ) (n : ℕ) (vs ds : List ℕ) → n ≡ a .number → vs ≡ put-if-done (a .number) s ws → ds ≡ carry (a .carries) cs → seen n vs ds l ≡ begun ws cs o
   unfolding begun
   begins cs n vs ds p q r =
-      ap₂ (λ (m : ℕ) (us : List ℕ). seen m us ds l) p q ∙ ap (λ (bs : List ℕ). seen (a .number) (put-if-done a s ws) bs l) r ∙ ap (begun ws cs) e
+      ap₂ (λ (m : ℕ) (us : List ℕ). seen m us ds l) p q ∙ ap (λ (bs : List ℕ). seen (a .number) (put-if-done (a .number) s ws) bs l) r ∙ ap (begun ws cs) e
+
+-- only an unknown version is carried by a reading
+pub no-version : (a : ReadAnswer) → OneOf (0 ∷ 1 ∷ 2 ∷ 4 ∷ 5 ∷ []) (tagOf the-type a) → read-answer a .carries ≡ []
+no-version ReadAnswer.Done h = refl
+no-version ReadAnswer.Damaged h = refl
+no-version ReadAnswer.BadMagic h = refl
+no-version (ReadAnswer.UnknownVersion v) h = ⊎-elim (λ o. absurd (omega arith)) (⊎-elim (λ o. absurd (omega arith)) (⊎-elim (λ o. absurd (omega arith)) (⊎-elim (λ o. absurd (omega arith)) (λ o. absurd (omega arith))))) h
+no-version ReadAnswer.Corrupt h = refl
+no-version ReadAnswer.NoRoom h = refl
 
 -- no word changes where there is none
 pub carry-none : (vs : List ℕ) → [] ≡ carry vs []

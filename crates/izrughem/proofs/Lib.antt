@@ -1,3 +1,4 @@
--- What the proofs of several functions use, and what follows for callers.
+-- a state in words
 mod Words
+-- what a caller sees, said of the calls below
 mod Calls

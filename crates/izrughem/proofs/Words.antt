@@ -1,18 +1,15 @@
--- Words that hold a state: what they are, what a store leaves, and that a state survives the way into words and back. Assumes nothing.
-use mathlib.Core.Path.{_≡_, refl, sym, ap, ap₂, _∙_}
+-- Words that hold a state: how many and how large they are, and what a store of one leaves. Assumes nothing.
+use mathlib.Core.Path.{_≡_, ap₂, _∙_}
 use mathlib.Core.Bool.{Bool, true, false, cond, _&&_}
 use mathlib.Core.List.{List, [], _∷_}
-use Prim.Native.Nat.{ℕ, suc, _^_, _<_, _≤_}
-use native.Mathlib.Omega.{arith}
-use borrow.Author.Tests.{ltb-true, leb-true, eqb-true, lt-ltb, le-leb}
+use Prim.Native.Nat.{ℕ, _^_, _<_, _≤_}
+use borrow.Author.Tests.{ltb-true, leb-true, eqb-true}
 use lib.Dec.{leb, ltb, eqb, lit<}
 use lib.ListN.{length, getD, set, drop}
 use lib.Seq.{sets-eq}
-use Rattle.kinds.specs.declared.Last.{Last}
-use Rattle.kinds.specs.declared.Last.the-variants.{Nothing, At}
 use Rattle.kinds.specs.declared.State.{State}
 use Rattle.rules.proofs.Records.{and-left, and-right}
-use Rattle.izrughem.specs.Words.{holds-last, last-in, holds-state, state-in, flag-of, height-of, put-state}
+use Rattle.izrughem.specs.Words.{holds-last, holds-state, flag-of, height-of, put-state}
 
 -- a height that words hold has 32 bits
 height-low : (flag height : ℕ) → holds-last flag height ≡ true → height < 2 ^ 32

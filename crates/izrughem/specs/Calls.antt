@@ -5,14 +5,13 @@ use mathlib.Core.List.{List, [], _∷_}
 use lib.Dec.{leb, eqb}
 use lib.ListN.{length, getD, set}
 use lib.Ieee.{Float}
-use Rattle.kinds.specs.declared.State.{State}
 use Rattle.kinds.specs.Answers.{Answer}
 use Rattle.rules.specs.Board.{base}
 use Rattle.rules.specs.Memory.{Lent}
 use Rattle.rules.specs.Calls.{Outcome, start-call, enter-call, leave-call, block-call, estimate-call}
 use Rattle.format.specs.File.{version-1}
 use Rattle.format.specs.Calls.{write-call, read-call}
-use Rattle.izrughem.specs.Words.{holds-state, state-in, put-state}
+use Rattle.izrughem.specs.Words.{holds-state, state-in, put-state, put-if-done}
 
 -- all that a caller can see of a call: the number, the state's words, the words for what the answer carries, and the rest of what it lends, an L
 pub record Seen (L : Type 0) : Type 0 where
@@ -38,13 +37,9 @@ unfoldable pub carry : List ℕ → List ℕ → List ℕ
 carry [] cs = cs
 carry (v ∷ vs) cs = set cs 0 v
 
--- the state of a fresh start or of a reading goes into the words where it is done; refused, there is none
-unfoldable pub put-if-done : Answer → State → List ℕ → List ℕ
-put-if-done a s ws = cond (eqb (a .number) 0) (put-state s ws) ws
-
 -- a fresh start or a reading
 unfoldable pub begun : {L : Type 0} → List ℕ → List ℕ → Outcome L → Seen L
-begun ws cs o = seen (o .answer .number) (put-if-done (o .answer) (o .state) ws) (carry (o .answer .carries) cs) (o .lent)
+begun ws cs o = seen (o .answer .number) (put-if-done (o .answer .number) (o .state) ws) (carry (o .answer .carries) cs) (o .lent)
 
 -- Fresh start.
 unfoldable pub izr-new : List ℕ → Lent → Seen Lent

@@ -13,7 +13,7 @@ use Rattle.kinds.specs.declared.State.{State}
 unfoldable pub holds-last : ℕ → ℕ → Bool
 holds-last flag height = cond (eqb flag 0) (eqb height 0) (eqb flag 1 && ltb height (2 ^ 32))
 
--- and that last height
+-- the last height that the two words are
 unfoldable pub last-in : ℕ → ℕ → Last
 last-in flag height = cond (eqb flag 0) Nothing (At (record { 0 = height }))
 
@@ -21,20 +21,24 @@ last-in flag height = cond (eqb flag 0) Nothing (At (record { 0 = height }))
 unfoldable pub holds-state : List ℕ → Bool
 holds-state ws = leb 4 (length ws) && holds-last (getD ws 0 0) (getD ws 1 0)
 
--- and that state
+-- the state that words hold
 unfoldable pub state-in : List ℕ → State
 state-in ws = record { last = last-in (getD ws 0 0) (getD ws 1 0); pending = getD ws 2 0; recent = getD ws 3 0 }
 
 -- whether there is a last height
-unfoldable pub flag-of : Last → ℕ
+abbrev pub flag-of : Last → ℕ
 flag-of Nothing = 0
 flag-of (At h) = 1
 
 -- the height, or 0
-unfoldable pub height-of : Last → ℕ
+abbrev pub height-of : Last → ℕ
 height-of Nothing = 0
 height-of (At h) = h .0
 
 -- the first four words become the state's; anything after them stays
 unfoldable pub put-state : State → List ℕ → List ℕ
 put-state s ws = flag-of (s .last) ∷ height-of (s .last) ∷ s .pending ∷ s .recent ∷ drop 4 ws
+
+-- the state of a fresh start or of a reading goes into the words where its number is that of Done; refused, there is none
+unfoldable pub put-if-done : ℕ → State → List ℕ → List ℕ
+put-if-done number s ws = cond (eqb number 0) (put-state s ws) ws

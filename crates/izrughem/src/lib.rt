@@ -1,24 +1,20 @@
 // The public calls for C and Rust: numbers and slices only, a slice passing as a pointer and a length. Each answers document 01's number, and puts
 // what the answer carries, if anything, into `carried`. The state is four lent words (state.rt). Words that hold no state, an id that is not 32 bytes
 // and a `carried` of no words are Damaged, and nothing is changed.
-mod answers;
 mod id;
 mod state;
 mod tell;
 
-use answers::block_number;
-use answers::enter_number;
-use answers::leave_number;
 use id::id_in;
 use kinds::Blocks;
 use kinds::FeeRate;
 use kinds::Height;
 use state::holds_state;
+use state::put_if_done;
 use state::put_state;
 use state::state_in;
 use tell::tell_estimated;
 use tell::tell_reading;
-use tell::tell_started;
 use tell::tell_written;
 ghost use mathlib.Core.Path.{_≡_};
 ghost use mathlib.Core.List.{[]};
@@ -43,7 +39,9 @@ pub extern "C" fn izr_new(
         return 1;
     }
     let started = estimator::new(confirmed, resolved, pending, recent);
-    tell_started(state, started)
+    let answer = started.answer;
+    let after = started.state;
+    put_if_done(state, answer.number(), after)
 }
 
 // Enter (id, rate, height).
@@ -74,7 +72,7 @@ pub extern "C" fn izr_tx_entered(
     let after = entered.state;
     put_state(state, after);
     let answer = entered.answer;
-    enter_number(answer)
+    answer.number()
 }
 
 // Leave (id).
@@ -93,7 +91,7 @@ pub extern "C" fn izr_tx_left(state: &mut [u64], pending: &mut [u8], id: &[u8]) 
     let after = left.state;
     put_state(state, after);
     let answer = left.answer;
-    leave_number(answer)
+    answer.number()
 }
 
 // Block (ids, height).
@@ -126,7 +124,7 @@ pub extern "C" fn izr_block_connected(
     let after = connected.state;
     put_state(state, after);
     let answer = connected.answer;
-    block_number(answer)
+    answer.number()
 }
 
 // Estimate (target). It carries the rate, or 0 where there is none.

@@ -7,7 +7,10 @@ ghost use mathlib.Core.Path.{_≡_};
 ghost use mathlib.Core.Bool.{true};
 ghost use Prim.Native.Nat.{_≤_, _<_, _^_};
 ghost use lib.ListN.{length};
-ghost use Rattle.izrughem.specs.Words.{holds-last, holds-state, last-in, state-in, flag-of, height-of, put-state};
+ghost use Rattle.izrughem.specs.Words.{holds-last, holds-state, last-in, state-in, flag-of, height-of, put-state, put-if-done};
+
+// One more than the highest height.
+const HEIGHTS: u64 = 4294967296;
 
 // Whether the two words are a last height.
 fn holds_last(flag: u64, height: u64) -> bool
@@ -17,7 +20,7 @@ fn holds_last(flag: u64, height: u64) -> bool
         return height == 0;
     }
     if flag == 1 {
-        return height < 4294967296;
+        return height < HEIGHTS;
     }
     false
 }
@@ -34,6 +37,7 @@ pub(crate) fn holds_state(words: &[u64]) -> bool
     holds_last(flag, height)
 }
 
+// The last height that the two words hold.
 fn last_in(flag: u64, height: u64) -> Last
     requires { ⌜ height < 2 ^ 32 ⌝ }
     ensures { λ r. ⌜ r ≡ last-in flag height ⌝ }
@@ -61,6 +65,7 @@ pub(crate) fn state_in(words: &[u64]) -> State
     }
 }
 
+// Whether there is a last height, as a word.
 fn flag_of(last: Last) -> u64
     ensures { λ r. ⌜ r ≡ flag-of last ⌝ }
 {
@@ -70,6 +75,7 @@ fn flag_of(last: Last) -> u64
     }
 }
 
+// The last height as a word, or 0 where there is none.
 fn height_of(last: Last) -> u64
     ensures { λ r. ⌜ r ≡ height-of last ⌝ }
 {
@@ -89,4 +95,16 @@ pub(crate) fn put_state(words: &mut [u64], s: State)
     words[1] = height_of(last);
     words[2] = s.pending as u64;
     words[3] = s.recent as u64;
+}
+
+// Puts the state into the first four words where the number is that of Done, and hands the number on.
+pub(crate) fn put_if_done(words: &mut [u64], number: u32, s: State) -> u32
+    requires { ⌜ 4 ≤ length (now words) ⌝ }
+    ensures { λ r. ⌜ (r ≡ number) × (now (words .exit) ≡ put-if-done number s (now (words .entry))) ⌝ }
+{
+    if number != 0 {
+        return number;
+    }
+    put_state(words, s);
+    number
 }

@@ -1,6 +1,6 @@
 -- What the estimate call answers after an accepted reading is the estimate itself, since what the reading leaves is sound. Assumes nothing.
-use mathlib.Core.Path.{_≡_, refl, ap, _∙_}
-use mathlib.Core.Bool.{Bool, true, false, _&&_, cond}
+use mathlib.Core.Path.{_≡_, refl, ap}
+use mathlib.Core.Bool.{Bool, true, false, cond}
 use mathlib.Core.List.{List, _++_}
 use mathlib.Core.Option.{Option, none, some}
 use Prim.Native.Nat.{ℕ}
@@ -12,7 +12,7 @@ use Rattle.kinds.specs.Answers.{Answer}
 use Rattle.rules.specs.Board.{base}
 use Rattle.rules.specs.Estimate.{estimate}
 use Rattle.rules.specs.Memory.{Lent, sound-counts, sound}
-use Rattle.rules.specs.Calls.{Outcome, rate-answer, estimate-call}
+use Rattle.rules.specs.Calls.{rate-answer, estimate-call}
 use Rattle.rules.proofs.Records.{and-left, and-right}
 use Rattle.rules.proofs.Boards.{base-lawful}
 use Rattle.format.specs.File.{version-1}

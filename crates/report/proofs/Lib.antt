@@ -1,6 +1,12 @@
+-- pieces written one after the other
 pub mod Pieces
+-- the lines of the targets
 pub mod Targets
+-- there is room for all that is told
 pub mod Short
+-- what an estimate answers after a reading is the estimate itself
 pub mod Answered
+-- the whole: what is put is what is shown
 pub mod Reported
+-- `show` never says Damaged or NoRoom
 pub mod Never

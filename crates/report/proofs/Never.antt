@@ -1,5 +1,5 @@
 -- `show` never says Damaged or NoRoom: its memory is long enough, and 65,536 bytes hold at most 172 pending or 210 confirmed records. Assumes nothing.
-use mathlib.Core.Path.{_≡_, refl, ap, _∙_}
+use mathlib.Core.Path.{_≡_, refl, ap}
 use mathlib.Core.Bool.{true, _&&_}
 use mathlib.Core.List.{List}
 use mathlib.Core.Logic.{_⊎_, inl, inr}

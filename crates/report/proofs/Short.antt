@@ -1,5 +1,5 @@
 -- What is told is at most 2,048 bytes long: a number has at most 20 digits. Assumes nothing.
-use mathlib.Core.Path.{_≡_, refl, _∙_}
+use mathlib.Core.Path.{_≡_}
 use mathlib.Core.Bool.{Bool, true, false, cond}
 use mathlib.Core.List.{List, [], _∷_, _++_}
 use Prim.Native.Nat.{ℕ, zero, suc, _+_, _*_, _/_, _%_, _≤_}
@@ -14,7 +14,7 @@ use Rattle.kinds.specs.declared.ReadAnswer.{ReadAnswer}
 use Rattle.kinds.specs.Answers.{read-answer}
 use Rattle.rules.specs.Records.{joined}
 use Rattle.print.specs.Numerals.{decimal-in, decimal}
-use Rattle.report.specs.Words.{Text, dash}
+use Rattle.report.specs.Words.{Text}
 use Rattle.report.specs.Shown.{line, last-text, state-lines, target-lines, name, carried, refusal, told}
 use Rattle.report.specs.Pieces.{carried-rate, answered}
 

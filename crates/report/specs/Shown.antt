@@ -9,7 +9,7 @@ use Rattle.kinds.specs.declared.Last.{Last}
 use Rattle.kinds.specs.declared.Last.the-variants.{Nothing, At}
 use Rattle.kinds.specs.declared.State.{State}
 use Rattle.kinds.specs.Answers.{Answer}
-use Rattle.rules.specs.Counts.{places-of-counts, nought}
+use Rattle.rules.specs.Counts.{columns, places-of-counts, nought}
 use Rattle.rules.specs.Records.{joined}
 use Rattle.rules.specs.Board.{base, pending-size, confirmed-size}
 use Rattle.rules.specs.Estimate.{estimate}
@@ -37,7 +37,7 @@ unfoldable pub rate-text : Option ℕ → Text
 rate-text none = dash
 rate-text (some r) = decimal r
 
--- then each of n targets from t on, and its rate or `-`
+-- each of n targets from t on, and its rate or `-`
 unfoldable pub target-lines : (ℕ → Text) → ℕ → ℕ → List Text
 target-lines rate t zero = []
 target-lines rate t (suc n) = decimal t ∷ space ∷ rate t ∷ end ∷ target-lines rate (suc t) n
@@ -57,7 +57,7 @@ refusal a = refused ∷ name (a .number) ∷ (carried (a .carries) ++ (end ∷ [
 
 -- what is told of a reading: its answer, its state, and the rate of each target
 unfoldable pub told : Answer → State → (ℕ → Text) → List Text
-told a s rate = cond (eqb (a .number) 0) (state-lines s ++ target-lines rate 1 25) (refusal a)
+told a s rate = cond (eqb (a .number) 0) (state-lines s ++ target-lines rate 1 columns) (refusal a)
 
 -- room for 172 pending and 210 confirmed records
 unfoldable pub room : Lent

@@ -2,6 +2,9 @@
 mod lines;
 
 use estimator::from_history_bytes;
+use kinds::CONFIRMED_SIZE;
+use kinds::COUNTS;
+use kinds::PENDING_SIZE;
 use kinds::ReadAnswer;
 use kinds::State;
 use lines::put_line;
@@ -16,6 +19,17 @@ ghost use Rattle.kinds.specs.Answers.{read-answer};
 ghost use Rattle.print.specs.Page.{page};
 ghost use Rattle.report.specs.Shown.{told, shown};
 ghost use Rattle.report.specs.Pieces.{writes, answered};
+
+// The most bytes that are read.
+pub const LONGEST: usize = 65536;
+
+// The most bytes that are printed.
+pub const PAGE: usize = 2048;
+
+// Room for all records that a file of so many bytes can have, of each kind.
+const PENDING_ROOM: usize = 172 * PENDING_SIZE;
+
+const RECENT_ROOM: usize = 210 * CONFIRMED_SIZE;
 
 // What is told of a reading: the state and the rates, or why it was refused.
 fn tell(
@@ -43,17 +57,17 @@ fn tell(
 }
 
 // Everything that `show` prints of a file; the answer is how many bytes that is. (It never tells of NoRoom or Damaged: proofs/Never.antt.)
-pub fn report(file: &[u8], out: &mut [u8; 2048]) -> usize
+pub fn report(file: &[u8], out: &mut [u8; PAGE]) -> usize
     ensures { λ r. ⌜ Counts r (now (out .exit)) ⌝ }
     ensures { λ r. ⌜ page (now (out .exit)) r ≡ page (sets (now (out .entry)) 0 (shown (now (file .entry)))) (length (shown (now (file .entry)))) ⌝ }
 {
-    if 65536 < file.len() {
+    if LONGEST < file.len() {
         return put_line(out, 0, b"refused ", b"TooLong");
     }
-    let mut confirmed = [0.0f64; 3550];
-    let mut resolved = [0.0f64; 3550];
-    let mut pending = [0u8; 7568];
-    let mut recent = [0u8; 7560];
+    let mut confirmed = [0.0f64; COUNTS];
+    let mut resolved = [0.0f64; COUNTS];
+    let mut pending = [0u8; PENDING_ROOM];
+    let mut recent = [0u8; RECENT_ROOM];
     let r = from_history_bytes(
         file,
         &mut confirmed,

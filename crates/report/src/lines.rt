@@ -3,12 +3,14 @@ use estimator::estimate;
 use kinds::Blocks;
 use kinds::Estimated;
 use kinds::Last;
+use kinds::MAX_CONF_TARGET;
 use kinds::State;
 use print::put;
 use print::put_byte;
 use print::put_decimal;
 ghost use mathlib.Core.Path.{_≡_};
 ghost use Rattle.kinds.specs.Answers.{unknown-version, estimate-answer};
+ghost use Rattle.rules.specs.Counts.{columns};
 ghost use Rattle.print.specs.Page.{page, write};
 ghost use Rattle.print.specs.Numerals.{decimal};
 ghost use Rattle.report.specs.Words.{height};
@@ -21,7 +23,7 @@ pub(crate) fn put_line(out: &mut [u8], at: usize, word: &[u8], text: &[u8]) -> u
 {
     let a = put(out, at, word);
     let b = put(out, a, text);
-    put_byte(out, b, 10)
+    put_byte(out, b, b'\n')
 }
 
 // A word and a number.
@@ -30,7 +32,7 @@ fn put_number(out: &mut [u8], at: usize, word: &[u8], n: u64) -> usize
 {
     let a = put(out, at, word);
     let b = put_decimal(out, a, n);
-    put_byte(out, b, 10)
+    put_byte(out, b, b'\n')
 }
 
 // The last height or `-`.
@@ -69,11 +71,10 @@ pub(crate) fn put_version(out: &mut [u8], at: usize, v: u32) -> usize
 fn put_rate(out: &mut [u8], at: usize, e: Estimated) -> usize
     ensures { λ r. ⌜ page (now (out .exit)) r ≡ write (carried-rate (estimate-answer e .carries)) (page (now (out .entry)) at) ⌝ }
 {
-    match e {
-        Estimated::Rate(rate) => put_decimal(out, at, rate.0),
-        Estimated::NoRate => put_byte(out, at, 45),
-        Estimated::Damaged => put_byte(out, at, 45),
-    }
+    let Estimated::Rate(rate) = e else {
+        return put_byte(out, at, b'-');
+    };
+    put_decimal(out, at, rate.0)
 }
 
 // A target and its rate.
@@ -89,12 +90,15 @@ fn put_target(
 {
     let e = estimate(state, confirmed, resolved, Blocks(t));
     let a = put_decimal(out, at, t as u64);
-    let b = put_byte(out, a, 32);
+    let b = put_byte(out, a, b' ');
     let c = put_rate(out, b, e);
-    put_byte(out, c, 10)
+    put_byte(out, c, b'\n')
 }
 
-// Each target from 1 to 25 and its rate.
+// The last target that is told, and as many are.
+const TARGETS: u32 = MAX_CONF_TARGET as u32;
+
+// Each target and its rate.
 pub(crate) fn put_targets(
     out: &mut [u8],
     from: usize,
@@ -102,11 +106,11 @@ pub(crate) fn put_targets(
     confirmed: &[f64],
     resolved: &[f64],
 ) -> usize
-    ensures { λ r. ⌜ page (now (out .exit)) r ≡ writes (target-lines (answered state (now (confirmed .entry)) (now (resolved .entry))) 1 25) (page (now (out .entry)) from) ⌝ }
+    ensures { λ r. ⌜ page (now (out .exit)) r ≡ writes (target-lines (answered state (now (confirmed .entry)) (now (resolved .entry))) 1 columns) (page (now (out .entry)) from) ⌝ }
 {
     let mut at = from;
     let mut t: u32 = 1;
-    while t < 26 {
+    while t <= TARGETS {
         at = put_target(out, at, t, state, confirmed, resolved);
         t += 1;
     }

@@ -41,8 +41,8 @@ block-connected-requires c κs = search needs
 put-state-requires : tie.Need-put-state-requires
 put-state-requires c κs = let e = c .before .before .before .before .before .before .before .before .before .before .before .before .before .before .before .before .before in four (now (start e .args .state)) (held e)
 
-block-number-requires : tie.Need-block-number-requires
-block-number-requires c κs = search needs
+number-requires : tie.Need-number-requires
+number-requires c κs = search needs
 
 same-length-2 : tie.Need-same-length-2
 same-length-2 c = search needs
@@ -62,12 +62,13 @@ same-length-6 c = search needs
 returns-2 : tie.Need-returns-2
 unfolding izr-block-connected
 returns-2 c =
-    let e = c .before .before .before .before .before .before .before .before .before .before .before .before .before .before .before .before .before .before .before .before .before in
+    let put = c .before .before .before in
+    let called = put .before .before .before .before .before .before .before .before .before .before .before in
+    let w = called .before .before .before .before .before in
+    let e = w .before .before in
     let a = start e .args in
-    let same =
-    ap (λ (s : State). block-call base s (lent (now (a .confirmed)) (now (a .resolved)) (now (a .pending)) (now (a .recent))) (now (a .ids)) (record { 0 = a .height }))
-    (c .before .before .before .before .before .before .before .before .before .before .before .before .before .before .before .before .before .before .before .state-in .ensures) in
-    fits _ _ _ _ _ (held e) _ (tells (now (a .state)) _ _ _ _ (c .before .before .before .before .before .before .before .before .before .before .before .before .before .before .block-connected .ensures ∙ same) _ _ (c .block-number .ensures) (c .before .before .before .put-state .ensures))
+    let same = ap (λ (s : State). block-call base s (lent (now (a .confirmed)) (now (a .resolved)) (now (a .pending)) (now (a .recent))) (now (a .ids)) (record { 0 = a .height })) (w .state-in .ensures) in
+    fits _ _ _ _ _ (held e) _ (tells (now (a .state)) _ _ _ _ (called .block-connected .ensures ∙ same) _ _ (c .number .ensures) (put .put-state .ensures))
 
 pub izr-block-connected-spec : {M : Type 1} → statement M
 izr-block-connected-spec =
@@ -79,7 +80,7 @@ izr-block-connected-spec =
     state-in-requires
     block-connected-requires
     put-state-requires
-    block-number-requires
+    number-requires
     same-length-2
     same-length-3
     same-length-4

@@ -46,11 +46,14 @@ same-length c = search needs
 returns-3 : tie.Need-returns-3
 unfolding izr-estimate
 returns-3 c =
-    let e = c .before .before .before .before .before .before .before in
+    let told = c .before .before in
+    let called = told .before .before in
+    let w = called .before in
+    let e = w .before .before in
     let a = start e .args in
-    let same = ap (λ (s : State). estimate-call base s (now (a .confirmed)) (now (a .resolved)) (record { 0 = a .target })) (c .before .before .before .before .before .state-in .ensures) in
-    let told = c .before .before .tell-estimated .ensures in
-    fits _ _ _ _ _ (both _ _ (held e) (a-word (now (a .carried)) (c .before .before .before .before .before .before .if2 .left))) _ (estimates _ _ _ _ (c .before .before .before .before .estimate .ensures ∙ same) _ _ (told .0) (told .1))
+    let same = ap (λ (s : State). estimate-call base s (now (a .confirmed)) (now (a .resolved)) (record { 0 = a .target })) (w .state-in .ensures) in
+    let t = told .tell-estimated .ensures in
+    fits _ _ _ _ _ (both _ _ (held e) (a-word (now (a .carried)) (w .before .if2 .left))) _ (estimates _ _ _ _ (called .estimate .ensures ∙ same) _ _ (t .0) (t .1))
 
 pub izr-estimate-spec : {M : Type 1} → statement M
 izr-estimate-spec =

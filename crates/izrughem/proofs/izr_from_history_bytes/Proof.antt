@@ -47,11 +47,13 @@ same-length-6 c = search needs
 returns-3 : tie.Need-returns-3
 unfolding izr-from-history-bytes
 returns-3 c =
-    let e = c .before .before .before .before .before .before .before .before .before .before .before .before .before .before .before .before .before .before .before .before .before in
-    let a = start e .args in
-    let told = c .before .before .before .before .tell-reading .ensures in
-    fits _ _ _ _ _ (both _ _ (le-leb 4 _ (e .if1 .left)) (a-word (now (a .carried)) (c .before .before .before .before .before .before .before .before .before .before .before .before .before .before .before .before .before .before .before .before .if2 .left))) _
-    (begins (now (a .state)) _ _ _ _ (c .before .before .before .before .before .before .before .before .before .before .before .before .before .before .before .from-history-bytes .ensures) (now (a .carried)) _ _ _ (told .0) (told .1 .0) (told .1 .1))
+    let told = c .before .before .before .before in
+    let called = told .before .before .before .before .before .before .before .before .before .before .before in
+    let d = called .before .before .before .before .before in
+    let a = start (d .before) .args in
+    let t = told .tell-reading .ensures in
+    fits _ _ _ _ _ (both _ _ (le-leb 4 _ (d .before .if1 .left)) (a-word (now (a .carried)) (d .if2 .left))) _
+    (begins (now (a .state)) _ _ _ _ (called .from-history-bytes .ensures) (now (a .carried)) _ _ _ (t .0) (t .1 .0) (t .1 .1))
 
 pub izr-from-history-bytes-spec : {M : Type 1} → statement M
 izr-from-history-bytes-spec =

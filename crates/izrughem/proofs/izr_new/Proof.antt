@@ -1,8 +1,11 @@
 -- `izrughem::izr_new` meets its contract. Assumes nothing.
-use mathlib.Core.List.{[]}
+use mathlib.Core.Path.{ap, _∙_}
+use mathlib.Core.List.{List, []}
+use Prim.Native.Nat.{ℕ}
 use denote.Ref.{now}
 use borrow.Author.Tests.{le-leb, lt-leb}
 use borrow.Author.Needs.{needs}
+use Rattle.izrughem.specs.Words.{put-if-done}
 use Rattle.izrughem.specs.Calls.{izr-new}
 use Rattle.izrughem.proofs.Calls.{unfit, fits, begins, carry-none}
 use Rattle.izrughem.proofs.izr_new.Statement.{statement}
@@ -15,8 +18,11 @@ returns c = unfit _ _ _ _ _ (lt-leb 4 _ (c .if1 .taken))
 new-requires : tie.Need-new-requires
 new-requires c κs = search needs
 
-tell-started-requires : tie.Need-tell-started-requires
-tell-started-requires c κs = search needs
+number-requires : tie.Need-number-requires
+number-requires c κs = search needs
+
+put-if-done-requires : tie.Need-put-if-done-requires
+put-if-done-requires c κs = search needs
 
 same-length : tie.Need-same-length
 same-length c = search needs
@@ -36,9 +42,14 @@ same-length-5 c = search needs
 returns-2 : tie.Need-returns-2
 unfolding izr-new
 returns-2 c =
-    let told = c .before .before .tell-started .ensures in
-    let e = c .before .before .before .before .before .before .before .before .before .before .before .before .before .before .before .before .before in
-    fits _ _ _ _ _ (le-leb 4 _ (e .if1 .left)) _ (begins (now (e .before .before .before .before .before .before .args .state)) _ _ _ _ (c .before .before .before .before .before .before .before .before .before .before .before .before .new .ensures) [] _ _ _ (told .0) (told .1) (carry-none _))
+    let put = c .before .before in
+    let n = put .before in
+    let called = n .before .before .before .before .before .before .before .before .before .before .before in
+    let e = called .before .before .before .before .before in
+    let ws = now (e .before .before .before .before .before .before .args .state) in
+    let told = put .put-if-done .ensures in
+    let same : ℕ → List ℕ = λ m. put-if-done m (called .new .result .state) ws in
+    fits _ _ _ _ _ (le-leb 4 _ (e .if1 .left)) _ (begins ws _ _ _ _ (called .new .ensures) [] _ _ _ (told .0 ∙ n .number .ensures) (told .1 ∙ ap same (n .number .ensures)) (carry-none _))
 
 pub izr-new-spec : {M : Type 1} → statement M
 izr-new-spec =
@@ -46,7 +57,8 @@ izr-new-spec =
     (tie.spec
     returns
     new-requires
-    tell-started-requires
+    number-requires
+    put-if-done-requires
     same-length
     same-length-2
     same-length-3

@@ -51,13 +51,14 @@ same-length-2 c = search needs
 returns-3 : tie.Need-returns-3
 unfolding izr-to-history-bytes
 returns-3 c =
-    let e = c .before .before .before .before .before .before .before .before .before .before in
+    let told = c .before .before in
+    let called = told .before .before .before .before in
+    let w = called .before .before in
+    let e = w .before .before in
     let a = start e .args in
-    let same =
-    ap (λ (s : State). write-call version-1 base s (lent (now (a .confirmed)) (now (a .resolved)) (now (a .pending)) (now (a .recent))) (now (a .out)))
-    (c .before .before .before .before .before .before .before .before .state-in .ensures) in
-    let told = c .before .before .tell-written .ensures in
-    fits _ _ _ _ _ (both _ _ (held e) (a-word (now (a .carried)) (c .before .before .before .before .before .before .before .before .before .if2 .left))) _ (writes _ _ _ _ _ _ _ (c .before .before .before .before .before .before .to-history-bytes .ensures ∙ same) _ _ (told .0) (told .1))
+    let same = ap (λ (s : State). write-call version-1 base s (lent (now (a .confirmed)) (now (a .resolved)) (now (a .pending)) (now (a .recent))) (now (a .out))) (w .state-in .ensures) in
+    let t = told .tell-written .ensures in
+    fits _ _ _ _ _ (both _ _ (held e) (a-word (now (a .carried)) (w .before .if2 .left))) _ (writes _ _ _ _ _ _ _ (called .to-history-bytes .ensures ∙ same) _ _ (t .0) (t .1))
 
 pub izr-to-history-bytes-spec : {M : Type 1} → statement M
 izr-to-history-bytes-spec =

@@ -53,8 +53,8 @@ tx-entered-requires c κs = search needs
 put-state-requires : tie.Need-put-state-requires
 put-state-requires c κs = let e = c .before .before .before .before .before .before .before .before .before .before .before in four (now (start e .args .state)) (held e)
 
-enter-number-requires : tie.Need-enter-number-requires
-enter-number-requires c κs = search needs
+number-requires : tie.Need-number-requires
+number-requires c κs = search needs
 
 same-length-3 : tie.Need-same-length-3
 same-length-3 c = search needs
@@ -65,11 +65,14 @@ same-length-4 c = search needs
 returns-3 : tie.Need-returns-3
 unfolding izr-tx-entered
 returns-3 c =
-    let e = c .before .before .before .before .before .before .before .before .before .before .before .before .before .before .before in
+    let put = c .before .before .before in
+    let called = put .before .before .before .before .before in
+    let w = called .before .before .before in
+    let d = w .before .before in
+    let e = d .before .before in
     let a = start e .args in
-    let call = c .before .before .before .before .before .before .before .before .tx-entered in
-    let same = ap₂ (λ (s : State) (i : List ℕ). enter-call base s (now (a .pending)) i (record { 0 = a .rate }) (record { 0 = a .height })) (c .before .before .before .before .before .before .before .before .before .before .before .state-in .ensures) (c .before .before .before .before .before .before .before .before .before .before .before .before .before .id-in .ensures) in
-    fits _ _ _ _ _ (both _ _ (held e) (eq-eqb _ _ (c .before .before .before .before .before .before .before .before .before .before .before .before .before .before .if2 .left))) _ (tells (now (a .state)) _ _ _ _ (call .ensures ∙ same) _ _ (c .enter-number .ensures) (c .before .before .before .put-state .ensures))
+    let same = ap₂ (λ (s : State) (i : List ℕ). enter-call base s (now (a .pending)) i (record { 0 = a .rate }) (record { 0 = a .height })) (w .state-in .ensures) (d .id-in .ensures) in
+    fits _ _ _ _ _ (both _ _ (held e) (eq-eqb _ _ (d .before .if2 .left))) _ (tells (now (a .state)) _ _ _ _ (called .tx-entered .ensures ∙ same) _ _ (c .number .ensures) (put .put-state .ensures))
 
 pub izr-tx-entered-spec : {M : Type 1} → statement M
 izr-tx-entered-spec =
@@ -84,7 +87,7 @@ izr-tx-entered-spec =
     state-in-requires
     tx-entered-requires
     put-state-requires
-    enter-number-requires
+    number-requires
     same-length-3
     same-length-4
     returns-3)

@@ -1,10 +1,8 @@
 -- `report::report` meets its contract: what is put are the file's pieces, and there is room for them. Assumes nothing.
 use mathlib.Core.Path.{_≡_}
-use native.Mathlib.Omega.{arith}
 use denote.Ref.{now}
 use lib.Ieee.{ofBits}
 use lib.ListN.{length}
-use Rattle.rules.specs.Memory.{lent}
 use Rattle.rules.proofs.Bytes.{are-bytes}
 use Rattle.report.specs.Shown.{room}
 use Rattle.report.proofs.Short.{answered-short, told-short}

@@ -4,7 +4,6 @@ use Prim.Native.Nat.{_≤_}
 use lib.ListN.{length}
 use Rattle.izrughem.specs.Words.{state-in}
 use native.Mathlib.Omega.{arith}
-use borrow.Author.Needs.{needs}
 use Rattle.izrughem.proofs.Words.{four, low}
 use Rattle.izrughem.proofs.state.state_in.Statement.{statement}
 use Rattle.izrughem.proofs.state.state_in.Tie as tie

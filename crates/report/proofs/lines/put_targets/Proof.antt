@@ -2,7 +2,6 @@
 use mathlib.Core.Path.{_≡_, refl}
 use Prim.Native.Nat.{_-_}
 use native.Mathlib.Omega.{arith}
-use denote.Ref.{now}
 use lib.ListN.{length}
 use Rattle.print.specs.Page.{page}
 use Rattle.report.specs.Pieces.{answered}
@@ -32,13 +31,13 @@ loop-less c = omega arith
 loop-again : tie.Need-loop-again Inv-loop μ-loop
 loop-again c =
     let l = c .before .before .before .before .before .loop in
-    (omega arith, next _ (l .t) (l .inv .1) (c .before .before .before .before .loop-test .taken) (c .before .before .put-target .ensures))
+    (omega arith, next _ (l .t) (l .inv .1) (omega arith) (c .before .before .put-target .ensures))
 
 same-length : tie.Need-same-length Inv-loop μ-loop
 same-length c = c .before .loop .inv .0
 
 returns : tie.Need-returns Inv-loop μ-loop
-returns c = let l = c .before .loop in stop _ (l .t) (l .inv .1) (c .loop-test .left)
+returns c = let l = c .before .loop in stop _ (l .t) (l .inv .1) (omega arith)
 
 pub put-targets-spec : {M : Type 1} → statement M
 put-targets-spec =

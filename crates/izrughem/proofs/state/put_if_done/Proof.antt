@@ -1,0 +1,24 @@
+-- `izrughem::state::put_if_done` meets its contract. Assumes nothing.
+use mathlib.Core.Path.{refl, sym, _∙_}
+use borrow.Author.Tests.{eq-eqb, ne-eqb}
+use borrow.Author.Needs.{needs}
+use Rattle.izrughem.specs.Words.{put-if-done}
+use Rattle.izrughem.proofs.state.put_if_done.Statement.{statement}
+use Rattle.izrughem.proofs.state.put_if_done.Tie as tie
+
+returns : tie.Need-returns
+unfolding put-if-done
+returns c = (refl, sym (rw (ne-eqb (c .before .before .args .number) 0 (c .if1 .taken))))
+
+put-state-requires : tie.Need-put-state-requires
+put-state-requires c κs = search needs
+
+same-length : tie.Need-same-length
+same-length c = search needs
+
+returns-2 : tie.Need-returns-2
+unfolding put-if-done
+returns-2 c = let e = c .before .before .before .before in (refl, c .before .before .put-state .ensures ∙ sym (rw (eq-eqb (e .before .before .args .number) 0 (e .if1 .left))))
+
+pub put-if-done-spec : {M : Type 1} → statement M
+put-if-done-spec = tie.close (tie.spec returns put-state-requires same-length returns-2)
