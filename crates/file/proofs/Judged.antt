@@ -8,21 +8,21 @@ use Rattle.kinds.specs.declared.Last.{Last}
 use Rattle.kinds.specs.Answers.{corrupt}
 use Rattle.rules.specs.Ladder.{buckets}
 use Rattle.format.specs.Parts.{bad, good, ended, is-read}
-use Rattle.format.specs.File.{version-1, rates, read-buckets, read-tables, read-history}
+use Rattle.format.specs.File.{Version, rates, read-buckets, read-tables, read-history}
 use Rattle.codec.specs.Places.{buckets-size}
 use Rattle.codec.proofs.Rated.{both-rows}
 use Rattle.file.specs.Says.{tables-say, head-size, filed}
 use Rattle.file.specs.declared.tables.Sizes.{Sizes}
 use Rattle.file.proofs.Whole.{Headed, with-tables, file-tables}
 
-module _ (s : List ℕ) (last : Last) (h : Headed s last) (at : ℕ) (e : at ≡ head-size last)
+module _ (v : Version) (s : List ℕ) (last : Last) (h : Headed v s last) (at : ℕ) (e : at ≡ head-size v last)
     (k : at + buckets-size ≤ length s) (f : is-read (read-buckets rates (drop at s)) ≡ true)
-    (t : Sizes) (q : tables-say t s (at + buckets-size) ≡ ended (read-tables version-1 (drop (at + buckets-size) s))) where
-  pub tables-good : t .ok ≡ true → good (filed last (t .pending) (t .recent) s) ≡ read-history version-1 s
+    (t : Sizes) (q : tables-say v t s (at + buckets-size) ≡ ended (read-tables v (drop (at + buckets-size) s))) where
+  pub tables-good : t .ok ≡ true → good (filed v last (t .pending) (t .recent) s) ≡ read-history v s
   unfolding tables-say with-tables
   tables-good o =
-      rw (← e) (sym (file-tables s last h at e k f ∙ ap (with-tables last (both-rows buckets s at)) (sym q) ∙ rw o))
+      rw (← e) (sym (file-tables v s last h at e k f ∙ ap (with-tables last (both-rows buckets s at)) (sym q) ∙ rw o))
 
-  pub tables-bad : t .ok ≡ false → bad corrupt ≡ read-history version-1 s
+  pub tables-bad : t .ok ≡ false → bad corrupt ≡ read-history v s
   unfolding tables-say with-tables
-  tables-bad o = sym (file-tables s last h at e k f ∙ ap (with-tables last (both-rows buckets s at)) (sym q) ∙ rw o)
+  tables-bad o = sym (file-tables v s last h at e k f ∙ ap (with-tables last (both-rows buckets s at)) (sym q) ∙ rw o)

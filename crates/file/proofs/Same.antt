@@ -1,17 +1,17 @@
 -- Two lists of bytes are the same exactly when their numbers are. No contract cites this file. Assumes nothing.
-use mathlib.Core.Path.{_≡_, refl, ap, _∙_}
+use mathlib.Core.Path.{_≡_, refl, sym, ap, _∙_}
 use mathlib.Core.List.{List, [], _∷_}
 use mathlib.Core.Bool.{Bool, true, false, _&&_}
-use Prim.Native.Nat.{ℕ, _+_, _*_, _≤_, _<_}
+use Prim.Native.Nat.{ℕ, zero, suc, _+_, _*_, _%_, _/_, _^_, _≤_, _<_}
 use native.Mathlib.Omega.{arith}
 use borrow.Author.Tests.{eq-eqb, ne-eqb, eqb-true, eqb-false}
-use lib.Dec.{T, eqb, ltb, ltb→lt}
-use lib.Ieee.Fits.{and-l, and-r}
+use lib.Dec.{T, eqb, ltb, ltb→lt, lt→ltb, lit<}
+use lib.Ieee.Fits.{and-i, and-l, and-r}
 use lib.Pow.{areBytes}
-use lib.ListN.{length, take, getD}
+use lib.ListN.{length, take, drop, length-drop}
 use lib.Seq.{length-take-le}
-use Rattle.rules.specs.Bytes.{le}
-use Rattle.rules.proofs.Bytes.{are-bytes, bytes-take}
+use Rattle.rules.specs.Bytes.{le, bytes}
+use Rattle.rules.proofs.Bytes.{length-bytes, le-bytes, bytes-take, bytes-drop}
 use Rattle.mem.specs.Le.{le-at}
 use Rattle.rules.specs.Ids.{same}
 use Rattle.format.specs.File.{magic}
@@ -33,7 +33,19 @@ le-eqb (x ∷ xs) (y ∷ ys) n p q =
     digits x y (le xs) (le ys) (ltb→lt x 256 (and-l (ltb x 256) (areBytes xs) p)) (ltb→lt y 256 (and-l (ltb y 256) (areBytes ys) q))
     ∙ ap (λ (t : Bool). eqb x y && t) (le-eqb xs ys (omega arith) (and-r (ltb x 256) (areBytes xs) p) (and-r (ltb y 256) (areBytes ys) q))
 
+-- the bytes of a number are bytes
+bytes-bytes : (n v : ℕ) → T (areBytes (bytes n v))
+unfolding bytes
+bytes-bytes zero v = tt
+bytes-bytes (suc n) v = and-i (ltb (v % 256) 256) (areBytes (bytes n (v / 256))) (lt→ltb (v % 256) 256 (omega arith)) (bytes-bytes n (v / 256))
+
+-- the n bytes at `at` are those of v exactly when their number is v
+pub is-number : (n v : ℕ) (s : List ℕ) (at : ℕ) → at + n ≤ length s → T (areBytes s) → v < 256 ^ n → eqb (le-at n s at) v ≡ same (take n (drop at s)) (bytes n v)
+is-number n v s at h b k =
+    ap (eqb (le-at n s at)) (sym (le-bytes n v k))
+    ∙ le-eqb (take n (drop at s)) (bytes n v) (length-take-le n (drop at s) (simp length-drop (omega arith)) ∙ sym (length-bytes n v)) (bytes-take n (drop at s) (bytes-drop at s b)) (bytes-bytes n v)
+
 -- the first eight bytes are the magic ones exactly when their number is
-pub is-magic : (s : List ℕ) → 8 ≤ length s → ((i : ℕ) → getD s i 0 < 256) → eqb (le-at 8 s 0) 6000278246654169666 ≡ same (take 8 s) magic
-unfolding le
-is-magic s h k = le-eqb (take 8 s) magic (length-take-le 8 s h) (bytes-take 8 s (are-bytes s k)) tt
+pub is-magic : (s : List ℕ) → 8 ≤ length s → T (areBytes s) → eqb (le-at 8 s 0) 0x5345454645535242 ≡ same (take 8 s) magic
+unfolding bytes
+is-magic s h b = is-number 8 0x5345454645535242 s 0 h b (lit< tt)

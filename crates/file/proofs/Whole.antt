@@ -1,4 +1,4 @@
--- What a whole file is read as, told by places: the header takes 17 bytes, or 21, the buckets follow, then the tables. Assumes nothing.
+-- What a whole file is read as, told by places: the header with what stands after the version's number, the buckets, the tables. Assumes nothing.
 use mathlib.Core.Path.{_≡_, refl, sym, ap, _∙_, subst}
 use mathlib.Core.Bool.{Bool, true, false, cond}
 use mathlib.Core.List.{List, [], _∷_}
@@ -16,7 +16,7 @@ use Rattle.rules.specs.Ladder.{buckets}
 use Rattle.rules.specs.Bytes.{le}
 use Rattle.rules.specs.Estimator.{Estimator}
 use Rattle.format.specs.Parts.{Read, stopped, got, Part, and-then, _>>=_, _>>_, give, refuse, must, takes, number, Parsed, bad, good, begun, ended, is-read}
-use Rattle.format.specs.File.{version-1, magic, rates, height-length, Rows, Tables, read-flagged, read-last, read-bucket-count, with-bucket-count, read-start, read-after, read-head, read-buckets, read-tables, read-file, read-history}
+use Rattle.format.specs.File.{Version, magic, rates, height-length, Rows, Tables, read-flagged, read-last, read-bucket-count, with-bucket-count, read-start, read-after, read-head, read-buckets, read-tables, read-file, read-history}
 use Rattle.format.proofs.Back.{rates-length}
 use Rattle.codec.specs.Places.{buckets-size}
 use Rattle.codec.proofs.Tells.{then-got, then-stopped, Tells, too-short}
@@ -77,54 +77,41 @@ follows-number : (n m : ℕ) → Follows (number n) m (λ _. m + n)
 unfolding number
 follows-number n m = follows-then (takes n) (λ bs. give (le bs)) m (λ _. m + n) (λ _. m + n) (follows-takes n m) (λ bs. follows-give (le bs) (m + n) (λ _. m + n) refl)
 
-follows-flagged : (n : ℕ) → Follows (read-flagged n) 13 (λ l. 13 + height-length l)
+follows-flagged : (m n : ℕ) → Follows (read-flagged n) m (λ l. m + height-length l)
 unfolding read-flagged
-follows-flagged zero = follows-give Nothing 13 (λ l. 13 + height-length l) refl
-follows-flagged (suc zero) =
-    follows-then (number 4) _ 13 (λ _. 17) (λ l. 13 + height-length l) (follows-number 4 13) (λ h. follows-give (At (record { 0 = h })) 17 (λ l. 13 + height-length l) refl)
-follows-flagged (suc (suc n)) = follows-refuse corrupt 13 (λ l. 13 + height-length l)
+follows-flagged m zero = follows-give Nothing m (λ l. m + height-length l) (omega arith)
+follows-flagged m (suc zero) =
+    follows-then (number 4) _ m (λ _. m + 4) (λ l. m + height-length l) (follows-number 4 m) (λ h. follows-give (At (record { 0 = h })) (m + 4) (λ l. m + height-length l) refl)
+follows-flagged m (suc (suc n)) = follows-refuse corrupt m (λ l. m + height-length l)
 
-follows-with : (l : Last) → Follows (with-bucket-count l) (13 + height-length l) (λ k. head-size k)
+follows-with : (m : ℕ) (g : Last → ℕ) (l : Last) → m + 4 ≡ g l → Follows (with-bucket-count l) m g
 unfolding with-bucket-count read-bucket-count
-follows-with l =
-    let m = 13 + height-length l in
-    follows-next read-bucket-count (give l) m (m + 4) (λ k. head-size k)
+follows-with m g l e =
+    follows-next read-bucket-count (give l) m (m + 4) g
     (follows-then (number 4) (λ n. must (eqb n buckets) corrupt) m (λ _. m + 4) (λ _. m + 4) (follows-number 4 m) (λ n. follows-must (eqb n buckets) corrupt (m + 4)))
-    (follows-give l (m + 4) (λ k. head-size k) (omega arith))
+    (follows-give l (m + 4) g e)
 
-follows-head : Follows (read-head version-1) 0 (λ l. head-size l)
-unfolding read-head read-after read-start read-last
-follows-head =
-    let g : Last → ℕ = λ l. head-size l in
+follows-after : (v : Version) (m : ℕ) → Follows (read-after v) m (λ _. m + length (v .after))
+unfolding read-after
+follows-after v m =
+    let n = m + length (v .after) in
+    follows-then (takes (length (v .after))) (λ b. must (same b (v .after)) corrupt) m (λ _. n) (λ _. n) (follows-takes (length (v .after)) m) (λ b. follows-must (same b (v .after)) corrupt n)
+
+follows-head : (v : Version) → Follows (read-head v) 0 (λ l. head-size v l)
+unfolding read-head read-start read-last
+follows-head v =
+    let g : Last → ℕ = λ l. head-size v l in
+    let m = 12 + length (v .after) in
     follows-then (takes 8) _ 0 (λ _. 8) g (follows-takes 8 0)
-    (λ m. follows-next (must (same m magic) bad-magic) _ 8 8 g (follows-must (same m magic) bad-magic 8)
+    (λ b. follows-next (must (same b magic) bad-magic) _ 8 8 g (follows-must (same b magic) bad-magic 8)
     (follows-then (number 4) _ 8 (λ _. 12) g (follows-number 4 8)
-    (λ v. follows-next (must (eqb v 1) (unknown-version v)) _ 12 12 g (follows-must (eqb v 1) (unknown-version v) 12)
-    (follows-next (read-after version-1) read-start 12 12 g
-    (follows-then (takes 0) (λ b. must (same b []) corrupt) 12 (λ _. 12) (λ _. 12) (follows-takes 0 12) (λ b. follows-must (same b []) corrupt 12))
-    (follows-then read-last with-bucket-count 12 (λ l. 13 + height-length l) g
-    (follows-then (number 1) read-flagged 12 (λ _. 13) (λ l. 13 + height-length l) (follows-number 1 12) follows-flagged)
-    follows-with)))))
+    (λ n. follows-next (must (eqb n (v .number)) (unknown-version n)) _ 12 12 g (follows-must (eqb n (v .number)) (unknown-version n) 12)
+    (follows-next (read-after v) read-start 12 m g (follows-after v 12)
+    (follows-then read-last with-bucket-count m (λ l. m + 1 + height-length l) g
+    (follows-then (number 1) read-flagged m (λ _. m + 1) (λ l. m + 1 + height-length l) (follows-number 1 m) (follows-flagged (m + 1)))
+    (λ l. follows-with (m + 1 + height-length l) g l (omega arith)))))))
 
--- a header that is read, and where it ends
-pub record Headed (s : List ℕ) (last : Last) : Type 0 where
-  pub room : head-size last ≤ length s
-  pub read : read-head version-1 s ≡ got last (drop (head-size last) s)
-
-pub headed : (s : List ℕ) (last : Last) → begun (read-head version-1 s) ≡ good last → Headed s last
-unfolding begun
-headed s last h = go (read-head version-1 s) refl (follows-head .of s) h
-  where
-    on : (l : Last) → l ≡ last → (n : ℕ) → n ≤ length s → 0 + n ≡ head-size l → read-head version-1 s ≡ got l (drop n s) → Headed s last
-    on l e n o q r =
-        let m : n ≡ head-size last = omega (arith, ap height-length e) in
-        record { room = omega arith; read = r ∙ ap (λ (i : ℕ). got l (drop i s)) m ∙ ap (λ (x : Last). got x (drop (head-size last) s)) e }
-
-    go : (r : Read Last) → read-head version-1 s ≡ r → TookBy 0 (λ l. head-size l) s r → begun r ≡ good last → Headed s last
-    go (stopped why) e no-more h = let z : _≡_ {A = ℕ} 0 1 = cc in absurd (omega arith)
-    go (got l _) e (so-many n o q) h = on l (cc) n o q e
-
--- ---- the rest of the file
+-- ---- what was read, put together
 
 -- what was read and its tables, together
 abbrev pub together : Last → Rows → Tables → Estimator
@@ -140,44 +127,67 @@ finish last rows (stopped why) = refl
 finish last rows (got t []) = refl
 finish last rows (got t (b ∷ s)) = refl
 
-pub head-refused : (s : List ℕ) (why : Answer) → begun (read-head version-1 s) ≡ bad why → read-history version-1 s ≡ bad why
-unfolding begun read-history read-file ended
-head-refused s why h = go (read-head version-1 s) refl h
-  where
-    go : (r : Read Last) → read-head version-1 s ≡ r → begun r ≡ bad why → ended (read-file version-1 s) ≡ bad why
-    go (stopped w) e h =
-        let q : w ≡ why = cc in
-        ap ended (then-stopped (read-head version-1) (λ last. read-buckets rates >>= (λ rows. read-tables version-1 >>= (λ tables. give (together last rows tables)))) e) ∙ ap bad q
-    go (got l t) e h = let z : _≡_ {A = ℕ} 0 1 = cc in absurd (omega arith)
+-- ---- a file of version v
 
-module _ (s : List ℕ) (last : Last) (h : Headed s last) (at : ℕ) (e : at ≡ head-size last) where
-  after-head : read-file version-1 s ≡ (read-buckets rates >>= (λ rows. read-tables version-1 >>= (λ tables. give (together last rows tables)))) (drop at s)
-  unfolding read-file
-  after-head = then-got (read-head version-1) _ (h .read) ∙ ap (λ (n : ℕ). (read-buckets rates >>= (λ rows. read-tables version-1 >>= (λ tables. give (together last rows tables)))) (drop n s)) (sym e)
+module _ (v : Version) where
+  -- a header that is read, and where it ends
+  pub record Headed (s : List ℕ) (last : Last) : Type 0 where
+    pub room : head-size v last ≤ length s
+    pub read : read-head v s ≡ got last (drop (head-size v last) s)
 
-  pub file-short : length s < at + buckets-size → read-history version-1 s ≡ bad corrupt
-  unfolding read-history ended
-  file-short k =
-      let r : 408 * length rates ≡ buckets-size = ap (λ (n : ℕ). 408 * n) rates-length in
-      let l : length (drop at s) < 408 * length rates = rw length-drop (omega (arith, h .room)) in
-      ap ended (after-head ∙ then-stopped (read-buckets rates) _ (too-short (read-buckets rates) _ (takes-buckets rates) (drop at s) l))
-
-  told : at + buckets-size ≤ length s → Tells (read-buckets rates) (drop at s) (buckets-fine rates s at) (both-rows buckets s at) (drop (at + buckets-size) s)
-  told k = subst (λ (n : ℕ). Tells (read-buckets rates) (drop at s) (buckets-fine rates s at) (both-rows n s at) (drop (at + 408 * n) s)) rates-length (tells-buckets rates s at (omega (arith, rates-length)))
-
-  pub file-bad : at + buckets-size ≤ length s → is-read (read-buckets rates (drop at s)) ≡ false → read-history version-1 s ≡ bad corrupt
-  unfolding read-history ended is-read
-  file-bad k f = go (buckets-fine rates s at) (told k .is)
+  pub headed : (s : List ℕ) (last : Last) → begun (read-head v s) ≡ good last → Headed s last
+  unfolding begun
+  headed s last h = go (read-head v s) refl (follows-head v .of s) h
     where
-      go : (b : Bool) → read-buckets rates (drop at s) ≡ cond b (got (both-rows buckets s at) (drop (at + buckets-size) s)) (stopped corrupt) → ended (read-file version-1 s) ≡ bad corrupt
-      go true q = let z : _≡_ {A = Bool} true false = sym (ap is-read q) ∙ f in let y : _≡_ {A = ℕ} 0 1 = cc in absurd (omega arith)
-      go false q = ap ended (after-head ∙ then-stopped (read-buckets rates) _ q)
+      on : (l : Last) → l ≡ last → (n : ℕ) → n ≤ length s → 0 + n ≡ head-size v l → read-head v s ≡ got l (drop n s) → Headed s last
+      on l e n o q r =
+          let m : n ≡ head-size v last = omega (arith, ap height-length e) in
+          record { room = omega arith; read = r ∙ ap (λ (i : ℕ). got l (drop i s)) m ∙ ap (λ (x : Last). got x (drop (head-size v last) s)) e }
 
-  pub file-tables : at + buckets-size ≤ length s → is-read (read-buckets rates (drop at s)) ≡ true
-      → read-history version-1 s ≡ with-tables last (both-rows buckets s at) (ended (read-tables version-1 (drop (at + buckets-size) s)))
-  unfolding read-history ended is-read _>>=_
-  file-tables k f = go (buckets-fine rates s at) (told k .is)
+      go : (r : Read Last) → read-head v s ≡ r → TookBy 0 (λ l. head-size v l) s r → begun r ≡ good last → Headed s last
+      go (stopped why) e no-more h = let z : _≡_ {A = ℕ} 0 1 = cc in absurd (omega arith)
+      go (got l _) e (so-many n o q) h = on l (cc) n o q e
+
+  -- ---- the rest of the file
+
+  pub head-refused : (s : List ℕ) (why : Answer) → begun (read-head v s) ≡ bad why → read-history v s ≡ bad why
+  unfolding begun read-history read-file ended
+  head-refused s why h = go (read-head v s) refl h
     where
-      go : (b : Bool) → read-buckets rates (drop at s) ≡ cond b (got (both-rows buckets s at) (drop (at + buckets-size) s)) (stopped corrupt) → ended (read-file version-1 s) ≡ with-tables last (both-rows buckets s at) (ended (read-tables version-1 (drop (at + buckets-size) s)))
-      go true q = ap ended (after-head ∙ then-got (read-buckets rates) _ q) ∙ finish last (both-rows buckets s at) (read-tables version-1 (drop (at + buckets-size) s))
-      go false q = let z : _≡_ {A = Bool} false true = sym (ap is-read q) ∙ f in let y : _≡_ {A = ℕ} 0 1 = cc in absurd (omega arith)
+      go : (r : Read Last) → read-head v s ≡ r → begun r ≡ bad why → ended (read-file v s) ≡ bad why
+      go (stopped w) e h =
+          let q : w ≡ why = cc in
+          ap ended (then-stopped (read-head v) (λ last. read-buckets rates >>= (λ rows. read-tables v >>= (λ tables. give (together last rows tables)))) e) ∙ ap bad q
+      go (got l t) e h = let z : _≡_ {A = ℕ} 0 1 = cc in absurd (omega arith)
+
+  module _ (s : List ℕ) (last : Last) (h : Headed s last) (at : ℕ) (e : at ≡ head-size v last) where
+    after-head : read-file v s ≡ (read-buckets rates >>= (λ rows. read-tables v >>= (λ tables. give (together last rows tables)))) (drop at s)
+    unfolding read-file
+    after-head = then-got (read-head v) _ (h .read) ∙ ap (λ (n : ℕ). (read-buckets rates >>= (λ rows. read-tables v >>= (λ tables. give (together last rows tables)))) (drop n s)) (sym e)
+
+    pub file-short : length s < at + buckets-size → read-history v s ≡ bad corrupt
+    unfolding read-history ended
+    file-short k =
+        let r : 408 * length rates ≡ buckets-size = ap (λ (n : ℕ). 408 * n) rates-length in
+        let l : length (drop at s) < 408 * length rates = rw length-drop (omega (arith, h .room)) in
+        ap ended (after-head ∙ then-stopped (read-buckets rates) _ (too-short (read-buckets rates) _ (takes-buckets rates) (drop at s) l))
+
+    told : at + buckets-size ≤ length s → Tells (read-buckets rates) (drop at s) (buckets-fine rates s at) (both-rows buckets s at) (drop (at + buckets-size) s)
+    told k = subst (λ (n : ℕ). Tells (read-buckets rates) (drop at s) (buckets-fine rates s at) (both-rows n s at) (drop (at + 408 * n) s)) rates-length (tells-buckets rates s at (omega (arith, rates-length)))
+
+    pub file-bad : at + buckets-size ≤ length s → is-read (read-buckets rates (drop at s)) ≡ false → read-history v s ≡ bad corrupt
+    unfolding read-history ended is-read
+    file-bad k f = go (buckets-fine rates s at) (told k .is)
+      where
+        go : (b : Bool) → read-buckets rates (drop at s) ≡ cond b (got (both-rows buckets s at) (drop (at + buckets-size) s)) (stopped corrupt) → ended (read-file v s) ≡ bad corrupt
+        go true q = let z : _≡_ {A = Bool} true false = sym (ap is-read q) ∙ f in let y : _≡_ {A = ℕ} 0 1 = cc in absurd (omega arith)
+        go false q = ap ended (after-head ∙ then-stopped (read-buckets rates) _ q)
+
+    pub file-tables : at + buckets-size ≤ length s → is-read (read-buckets rates (drop at s)) ≡ true
+        → read-history v s ≡ with-tables last (both-rows buckets s at) (ended (read-tables v (drop (at + buckets-size) s)))
+    unfolding read-history ended is-read _>>=_
+    file-tables k f = go (buckets-fine rates s at) (told k .is)
+      where
+        go : (b : Bool) → read-buckets rates (drop at s) ≡ cond b (got (both-rows buckets s at) (drop (at + buckets-size) s)) (stopped corrupt) → ended (read-file v s) ≡ with-tables last (both-rows buckets s at) (ended (read-tables v (drop (at + buckets-size) s)))
+        go true q = ap ended (after-head ∙ then-got (read-buckets rates) _ q) ∙ finish last (both-rows buckets s at) (read-tables v (drop (at + buckets-size) s))
+        go false q = let z : _≡_ {A = Bool} false true = sym (ap is-read q) ∙ f in let y : _≡_ {A = ℕ} 0 1 = cc in absurd (omega arith)

@@ -1,17 +1,21 @@
 // The history file: its header, put and read, and the whole of it, judged before anything is stored.
 mod head;
 mod tables;
+mod version;
 
 use codec::buckets::buckets_ok;
 pub use head::Header;
 pub use head::header_len;
 pub use head::put_header;
 use head::read_header;
+use kinds::BUCKETS_SIZE;
+use kinds::FileVersion;
 use kinds::Last;
 use tables::read_tables;
+pub use version::record_size;
 ghost use mathlib.Core.Path.{_≡_};
 ghost use Rattle.format.specs.Parts.{begun, good};
-ghost use Rattle.format.specs.File.{version-1, read-head, read-history};
+ghost use Rattle.format.specs.File.{version-told, read-head, read-history};
 ghost use Rattle.file.specs.Says.{file-says};
 
 // The header of a file, or why the file is refused; and how many records each table has.
@@ -21,13 +25,13 @@ pub struct Checked {
     pub recent: usize,
 }
 
-// What comes after a header with this last height: 57,936 bytes of buckets, then the tables.
-fn check_rest(s: &[u8], last: Last) -> Checked
-    requires { ⌜ begun (read-head version-1 (now s)) ≡ good last ⌝ }
-    ensures { λ r. ⌜ file-says r (now (s .entry)) ≡ read-history version-1 (now (s .entry)) ⌝ }
+// What comes after a header with this last height: the buckets, then the tables.
+fn check_rest(s: &[u8], last: Last, version: FileVersion) -> Checked
+    requires { ⌜ begun (read-head (version-told version) (now s)) ≡ good last ⌝ }
+    ensures { λ r. ⌜ file-says (version-told version) r (now (s .entry)) ≡ read-history (version-told version) (now (s .entry)) ⌝ }
 {
-    let at = header_len(last);
-    if s.len() - at < 57936 {
+    let at = header_len(last, version);
+    if s.len() - at < BUCKETS_SIZE {
         return Checked {
             header: Header::Corrupt,
             pending: 0,
@@ -41,7 +45,7 @@ fn check_rest(s: &[u8], last: Last) -> Checked
             recent: 0,
         };
     }
-    let t = read_tables(s, at + 57936);
+    let t = read_tables(s, at + BUCKETS_SIZE, version);
     let ok = t.ok;
     let n = t.pending;
     let m = t.recent;
@@ -60,10 +64,10 @@ fn check_rest(s: &[u8], last: Last) -> Checked
 }
 
 // Whether the bytes are a history file, and which.
-pub fn check(s: &[u8]) -> Checked
-    ensures { λ r. ⌜ file-says r (now (s .entry)) ≡ read-history version-1 (now (s .entry)) ⌝ }
+pub fn check(s: &[u8], version: FileVersion) -> Checked
+    ensures { λ r. ⌜ file-says (version-told version) r (now (s .entry)) ≡ read-history (version-told version) (now (s .entry)) ⌝ }
 {
-    let h = read_header(s);
+    let h = read_header(s, version);
     match h {
         Header::BadMagic => Checked {
             header: Header::BadMagic,
@@ -80,6 +84,6 @@ pub fn check(s: &[u8]) -> Checked
             pending: 0,
             recent: 0,
         },
-        Header::Good(last) => check_rest(s, last),
+        Header::Good(last) => check_rest(s, last, version),
     }
 }

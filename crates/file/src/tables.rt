@@ -1,14 +1,26 @@
 // The two tables of a file, and its end.
+use crate::version::record_size;
+use codec::numbers::rest;
+use kinds::CONFIRMED_SIZE;
+use kinds::FileVersion;
+use kinds::MAX_CONFIRMED_RECORDS;
+use kinds::MAX_PENDING_ENTRIES;
 ghost use mathlib.Core.Path.{_≡_};
-ghost use mathlib.Core.Bool.{false};
-ghost use Prim.Native.Nat.{_+_, _*_, _≤_};
-ghost use lib.ListN.{length, take, drop};
-ghost use Rattle.rules.specs.Lists.{every};
-ghost use Rattle.rules.specs.Board.{pending-size, pending-of, in-range};
+ghost use mathlib.Core.Bool.{true, false};
+ghost use Prim.Native.Nat.{_≤_};
+ghost use lib.ListN.{length, drop};
+ghost use Rattle.rules.specs.Board.{confirmed-most};
+ghost use Rattle.mem.specs.Le.{le-at};
 ghost use Rattle.format.specs.Parts.{ended};
-ghost use Rattle.format.specs.File.{version-1, read-tables};
-ghost use Rattle.file.specs.Places.{pendings};
+ghost use Rattle.format.specs.File.{version-told, read-tables};
+ghost use Rattle.file.specs.Places.{has-table};
 ghost use Rattle.file.specs.Says.{tables-say};
+
+// How many records a table has, where `ok` says that the file has them all.
+pub struct Listing {
+    pub ok: bool,
+    pub count: usize,
+}
 
 // How many records each table has, where `ok` says that the tables are good and end the file.
 pub struct Sizes {
@@ -17,31 +29,33 @@ pub struct Sizes {
     pub recent: usize,
 }
 
-// Whether the pending record at `at` has a bucket up to 141 and a resolved-through up to 25.
-fn record_ok(s: &[u8], at: usize) -> bool
-    requires { ⌜ at + pending-size ≤ length (now s) ⌝ }
-    ensures { λ r. ⌜ r ≡ in-range (pending-of (take pending-size (drop at (now (s .entry))))) ⌝ }
+// No table.
+fn unlisted() -> Listing
+    ensures { λ r. ⌜ r .ok ≡ false ⌝ }
 {
-    if mem::u32_le(s, at + 32) <= 141 {
-        return mem::u32_le(s, at + 40) <= 25;
+    Listing {
+        ok: false,
+        count: 0,
     }
-    false
 }
 
-// The same of the n records from `at` on.
-fn pending_ok(s: &[u8], at: usize, n: usize) -> bool
-    requires { ⌜ at + pending-size * n ≤ length (now s) ⌝ }
-    ensures { λ r. ⌜ r ≡ every in-range (pendings (now (s .entry)) at n) ⌝ }
+// The number of records of `size` bytes that stands at `at`, if it is at most `most` and the file has so many.
+fn listed(s: &[u8], at: usize, size: usize, most: usize) -> Listing
+    requires { ⌜ (at ≤ length (now s)) × ((size ≤ 64) × (most ≤ confirmed-most)) ⌝ }
+    ensures { λ r. ⌜ r .ok ≡ has-table size most (now (s .entry)) at ⌝ }
+    ensures { λ r. ⌜ (r .ok ≡ true → r .count ≡ le-at 4 (now (s .entry)) at) ⌝ }
 {
-    let mut i = 0;
-    while i < n {
-        if record_ok(s, at + 44 * i) {
-            i += 1;
-        } else {
-            return false;
-        }
+    if s.len() - at < 4 {
+        return unlisted();
     }
-    true
+    let n = mem::u32_le(s, at) as usize;
+    if most < n {
+        return unlisted();
+    }
+    if s.len() - at - 4 < n * size {
+        return unlisted();
+    }
+    Listing { ok: true, count: n }
 }
 
 // No tables.
@@ -56,35 +70,28 @@ fn unreadable() -> Sizes
 }
 
 // Both tables, from `at` on to the end of the file.
-pub fn read_tables(s: &[u8], at: usize) -> Sizes
+pub fn read_tables(s: &[u8], at: usize, version: FileVersion) -> Sizes
     requires { ⌜ at ≤ length (now s) ⌝ }
-    ensures { λ r. ⌜ tables-say r (now (s .entry)) at ≡ ended (read-tables version-1 (drop at (now (s .entry)))) ⌝ }
+    ensures { λ r. ⌜ tables-say (version-told version) r (now (s .entry)) at ≡ ended (read-tables (version-told version) (drop at (now (s .entry)))) ⌝ }
 {
-    if s.len() - at < 4 {
+    let size = record_size(version);
+    let a = listed(s, at, size, MAX_PENDING_ENTRIES);
+    let first = a.ok;
+    let n = a.count;
+    if !first {
         return unreadable();
     }
-    let n = mem::u32_le(s, at) as usize;
-    if 10000 < n {
+    if !passes::in_range(rest(s, at + 4), size, n) {
         return unreadable();
     }
-    if s.len() - at - 4 < 44 * n {
+    let next = at + 4 + n * size;
+    let b = listed(s, next, CONFIRMED_SIZE, MAX_CONFIRMED_RECORDS);
+    let second = b.ok;
+    let m = b.count;
+    if !second {
         return unreadable();
     }
-    if !pending_ok(s, at + 4, n) {
-        return unreadable();
-    }
-    let next = at + 4 + 44 * n;
-    if s.len() - next < 4 {
-        return unreadable();
-    }
-    let m = mem::u32_le(s, next) as usize;
-    if 1000000 < m {
-        return unreadable();
-    }
-    if s.len() - next - 4 < 36 * m {
-        return unreadable();
-    }
-    if 36 * m < s.len() - next - 4 {
+    if next + 4 + m * CONFIRMED_SIZE < s.len() {
         return unreadable();
     }
     Sizes {

@@ -1,6 +1,6 @@
 -- The bounds on fields say what the rules say of records.
 -- Assumes nothing.
-use mathlib.Core.Path.{_≡_, refl, sym, ap, ap₂, _∙_}
+use mathlib.Core.Path.{_≡_, refl, sym, ap, _∙_}
 use mathlib.Core.Bool.{Bool, true, false, _&&_}
 use mathlib.Core.List.{List, map}
 use Prim.Native.Nat.{ℕ, _-_}
@@ -9,14 +9,11 @@ use lib.Dec.{leb, ltb}
 use borrow.Author.Tests.{leb-true, leb-false, le-leb, lt-leb, lt-ltb, le-ltb}
 use Rattle.rules.specs.Lists.{every}
 use Rattle.rules.specs.Records.{records}
-use Rattle.rules.specs.Memory.{pending-records}
 use Rattle.lists.proofs.Lists.{every-map, every-both}
 use Rattle.table.specs.Fields.{field}
 use Rattle.passes.specs.Fields.{passing, in-bound}
 use Rattle.passes.specs.declared.Bound.the-variants.{AtMost, AtLeast}
-use Rattle.rules.specs.Board.{Pending, board-of, pending-of, confirmed-of, in-range}
-use Rattle.rules.proofs.Boards.{read-is}
-use Rattle.kinds.specs.declared.Horizon.{Horizon}
+use Rattle.rules.specs.Board.{pending-of, confirmed-of, in-range}
 
 under : (v : ℕ) → leb v 24 ≡ ltb v 25
 under v = go (leb v 24) refl
@@ -43,11 +40,7 @@ unfolding in-bound confirmed-of
 height-recent h m e b = ap (λ (n : ℕ). leb n (field 32 b)) e ∙ recent h (field 32 b)
 
 -- bucket not above 141, resolved-through not above 25
-pub fields-sound : (on : Horizon) (size used : ℕ) (xs : List ℕ) → size ≡ board-of on .table .size
-    → every in-range (pending-records (board-of on) used xs)
-    ≡ every (passing 32 (AtMost 141)) (records size used xs) && every (passing 40 (AtMost 25)) (records size used xs)
-unfolding in-bound pending-of pending-records in-range
-fields-sound on size used xs e =
-    ap₂ (λ (f : List ℕ → Pending) (n : ℕ). every in-range (map f (records n used xs))) (read-is on) (sym e)
-    ∙ every-map pending-of in-range (records size used xs)
-    ∙ every-both (passing 32 (AtMost 141)) (passing 40 (AtMost 25)) (records size used xs)
+pub fields-in-range : (size used : ℕ) (xs : List ℕ)
+    → every in-range (map pending-of (records size used xs)) ≡ every (passing 32 (AtMost 141)) (records size used xs) && every (passing 40 (AtMost 25)) (records size used xs)
+unfolding in-bound pending-of in-range
+fields-in-range size used xs = every-map pending-of in-range (records size used xs) ∙ every-both (passing 32 (AtMost 141)) (passing 40 (AtMost 25)) (records size used xs)

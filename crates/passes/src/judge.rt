@@ -6,9 +6,11 @@ ghost use mathlib.Core.Path.{_≡_};
 ghost use Prim.Native.Nat.{_*_, _≤_};
 ghost use lib.ListN.{length};
 ghost use lib.Seq.{slice};
-ghost use Rattle.rules.specs.Records.{all-zero, sound-table};
+ghost use mathlib.Core.List.{map};
+ghost use Rattle.rules.specs.Lists.{every};
+ghost use Rattle.rules.specs.Records.{records, all-zero, sound-table};
 ghost use Rattle.rules.specs.Memory.{sound-pending, sound-confirmed};
-ghost use Rattle.rules.specs.Board.{board-of};
+ghost use Rattle.rules.specs.Board.{board-of, pending-size, pending-of, in-range};
 
 // Whether the bytes from `from` to `to` are all zero.
 fn zero_between(table: &[u8], from: usize, to: usize) -> bool
@@ -41,15 +43,24 @@ pub(crate) fn judge(table: &[u8], size: usize, most: usize, used: usize) -> bool
     }
 }
 
+// Whether every pending record has a bucket up to 141 and a resolved-through up to 25.
+pub fn in_range(table: &[u8], size: usize, used: usize) -> bool
+    requires { ⌜ (pending-size ≤ size) × (used * size ≤ length (now table)) ⌝ }
+    ensures { λ r. ⌜ r ≡ every in-range (map pending-of (records size used (now (table .entry)))) ⌝ }
+{
+    if pass::all_pass(table, size, used, 32, Bound::AtMost(141)) {
+        return pass::all_pass(table, size, used, 40, Bound::AtMost(25));
+    }
+    false
+}
+
 // Whether a pending table is sound.
 pub fn judge_pending(table: &[u8], used: usize, on: Horizon) -> bool
     ensures { λ r. ⌜ r ≡ sound-pending (board-of on) used (now (table .entry)) ⌝ }
 {
     let size = boards::record_size(on);
     if judge(table, size, 10000, used) {
-        if pass::all_pass(table, size, used, 32, Bound::AtMost(141)) {
-            return pass::all_pass(table, size, used, 40, Bound::AtMost(25));
-        }
+        return in_range(table, size, used);
     }
     false
 }

@@ -2,6 +2,7 @@
 mod judge;
 mod pass;
 
+pub use judge::in_range;
 pub use judge::judge_confirmed;
 pub use judge::judge_pending;
 pub use pass::drop_resolved;

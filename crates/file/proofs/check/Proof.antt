@@ -28,15 +28,15 @@ check-rest-requires c κs = sym (c .before .before .before .read-header .ensures
 
 returns : tie.Need-returns
 unfolding file-says said header-says
-returns c = sym (head-refused _ bad-magic (sym (c .before .before .read-header .ensures) ∙ ap header-says (c .enum-told .given .1)))
+returns c = sym (head-refused _ _ bad-magic (sym (c .before .before .read-header .ensures) ∙ ap header-says (c .enum-told .given .1)))
 
 returns-2 : tie.Need-returns-2
 unfolding file-says said header-says
-returns-2 c = sym (head-refused _ (unknown-version (c .before .h .given .0 .0)) (sym (c .before .before .before .read-header .ensures) ∙ ap header-says (c .before .h .given .1)))
+returns-2 c = sym (head-refused _ _ (unknown-version (c .before .h .given .0 .0)) (sym (c .before .before .before .read-header .ensures) ∙ ap header-says (c .before .h .given .1)))
 
 returns-3 : tie.Need-returns-3
 unfolding file-says said header-says
-returns-3 c = sym (head-refused _ corrupt (sym (c .before .before .read-header .ensures) ∙ ap header-says (c .enum-told2 .given .1)))
+returns-3 c = sym (head-refused _ _ corrupt (sym (c .before .before .read-header .ensures) ∙ ap header-says (c .enum-told2 .given .1)))
 
 returns-4 : tie.Need-returns-4
 returns-4 c = search needs

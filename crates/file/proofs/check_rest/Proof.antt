@@ -13,14 +13,14 @@ header-len-requires : tie.Need-header-len-requires
 header-len-requires c κs = search needs
 
 sub-if1 : tie.Need-sub-if1
-sub-if1 c = let h = headed _ _ (c .before .before .pre) in omega arith
+sub-if1 c = let h = headed _ _ _ (c .before .before .pre) in omega arith
 
 returns : tie.Need-returns
 unfolding file-says said
 returns c =
     let s = c .before .before .before in
-    let h = headed _ _ (s .pre) in
-    sym (file-short (s .args .s .now) (s .args .last) h (c .before .header-len .result) (c .before .header-len .ensures) (omega arith))
+    let h = headed _ _ _ (s .pre) in
+    sym (file-short _ (s .args .s .now) (s .args .last) h (c .before .header-len .result) (c .before .header-len .ensures .0) (omega arith))
 
 buckets-ok-requires : tie.Need-buckets-ok-requires
 buckets-ok-requires c κs = search needs
@@ -29,9 +29,9 @@ returns-2 : tie.Need-returns-2
 unfolding file-says said
 returns-2 c =
     let s = c .before .before .before .before .before in
-    let h = headed _ _ (s .pre) in
+    let h = headed _ _ _ (s .pre) in
     let at = c .before .before .before .header-len in
-    sym (file-bad (s .args .s .now) (s .args .last) h (at .result) (at .ensures) (omega arith) (sym (c .before .buckets-ok .ensures) ∙ not-true _ (c .if2 .taken)))
+    sym (file-bad _ (s .args .s .now) (s .args .last) h (at .result) (at .ensures .0) (omega arith) (sym (c .before .buckets-ok .ensures) ∙ not-true _ (c .if2 .taken)))
 
 add-read-tables : tie.Need-add-read-tables
 add-read-tables c = search needs
@@ -43,9 +43,9 @@ returns-3 : tie.Need-returns-3
 unfolding file-says said
 returns-3 c =
     let s = c .before .before .before .before .before .before .before in
-    let h = headed _ _ (s .pre) in
+    let h = headed _ _ _ (s .pre) in
     let at = c .before .before .before .before .before .header-len in
-    tables-good (s .args .s .now) (s .args .last) h (at .result) (at .ensures) (omega arith)
+    tables-good _ (s .args .s .now) (s .args .last) h (at .result) (at .ensures .0) (omega arith)
     (sym (c .before .before .before .buckets-ok .ensures) ∙ not-false _ (c .before .before .if2 .left))
     (c .before .read-tables .result) (c .before .read-tables .ensures) (c .if3 .taken)
 
@@ -53,9 +53,9 @@ returns-4 : tie.Need-returns-4
 unfolding file-says said
 returns-4 c =
     let s = c .before .before .before .before .before .before .before in
-    let h = headed _ _ (s .pre) in
+    let h = headed _ _ _ (s .pre) in
     let at = c .before .before .before .before .before .header-len in
-    tables-bad (s .args .s .now) (s .args .last) h (at .result) (at .ensures) (omega arith)
+    tables-bad _ (s .args .s .now) (s .args .last) h (at .result) (at .ensures .0) (omega arith)
     (sym (c .before .before .before .buckets-ok .ensures) ∙ not-false _ (c .before .before .if2 .left))
     (c .before .read-tables .result) (c .before .read-tables .ensures) (c .if3 .left)
 

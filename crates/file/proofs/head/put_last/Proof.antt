@@ -1,5 +1,5 @@
 -- `file::head::put_last` meets its contract, by the last height: the puts stand one after the other. Assumes nothing.
-use mathlib.Core.Path.{sym, ap, _∙_}
+use mathlib.Core.Path.{_≡_, sym, ap, _∙_}
 use mathlib.Core.List.{List, _++_}
 use Prim.Native.Nat.{ℕ, _+_}
 use native.Mathlib.Omega.{arith}
@@ -18,6 +18,12 @@ enum-told c = search needs
 put-u8-requires : tie.Need-put-u8-requires
 put-u8-requires c κs = search needs
 
+add-put-u32 : tie.Need-add-put-u32
+add-put-u32 c = search needs
+
+cast-put-u32 : tie.Need-cast-put-u32
+cast-put-u32 c = search needs
+
 put-u32-requires : tie.Need-put-u32-requires
 put-u32-requires c κs = search needs
 
@@ -27,12 +33,21 @@ enum-known-last c = search needs
 put-u8-requires-2 : tie.Need-put-u8-requires-2
 put-u8-requires-2 c κs = search needs
 
+add-put-u32-2 : tie.Need-add-put-u32-2
+add-put-u32-2 c = search needs
+
 put-u32-requires-2 : tie.Need-put-u32-requires-2
 put-u32-requires-2 c κs = search needs
 
+add-put-u32-3 : tie.Need-add-put-u32-3
+add-put-u32-3 c = search needs
+
+cast-put-u32-2 : tie.Need-cast-put-u32-2
+cast-put-u32-2 c = search needs
+
 put-u32-requires-3 : tie.Need-put-u32-requires-3
 put-u32-requires-3 c κs =
-    let e = ap height-length (c .before .before .before .before .before .before .before .before .before .before .last .given .1) in
+    let e : height-length (c .before .before .before .before .before .before .before .before .before .before .before .before .before .args .last) ≡ 4 = ap height-length (c .before .before .before .before .before .before .before .before .before .before .last .given .1) in
     omega (arith, e)
 
 same-length : tie.Need-same-length
@@ -40,23 +55,24 @@ same-length c = search needs
 
 returns : tie.Need-returns
 returns c =
-    let o = c .before .before .before .before .before .before .before .before .before .before .before .args .out .now in
+    let a = c .before .before .before .before .before .before .before .before .before .before .before .args in
     c .before .before .put-u32 .ensures
-    ∙ ap (λ (l : List ℕ). sets l 13 (bytes 4 142)) (c .before .before .before .before .before .before .put-u8 .ensures)
-    ∙ put-none o
-    ∙ ap (λ (l : Last). sets o 12 (last-bytes l ++ bytes 4 142)) (sym (c .before .before .before .before .before .before .before .before .enum-told .given .1))
+    ∙ ap (λ (l : List ℕ). sets l (a .at + 1) (bytes 4 142)) (c .before .before .before .before .before .before .put-u8 .ensures)
+    ∙ put-none (a .out .now) (a .at)
+    ∙ ap (λ (l : Last). sets (a .out .now) (a .at) (last-bytes l ++ bytes 4 142)) (sym (c .before .before .before .before .before .before .before .before .enum-told .given .1))
 
 same-length-2 : tie.Need-same-length-2
 same-length-2 c = search needs
 
 returns-2 : tie.Need-returns-2
 returns-2 c =
-    let o = c .before .before .before .before .before .before .before .before .before .before .before .before .before .before .before .before .args .out .now in
-    let h = c .before .before .before .before .before .before .before .before .before .before .before .before .before .last .given .0 .0 .0 in
+    let a = c .before .before .before .before .before .before .before .before .before .before .before .before .before .before .before .before .args in
+    let l = c .before .before .before .before .before .before .before .before .before .before .before .before .before .last .given in
+    let h = l .0 .0 .0 in
     c .before .before .put-u323 .ensures
-    ∙ ap (λ (l : List ℕ). sets l 17 (bytes 4 142)) (c .before .before .before .before .before .before .put-u322 .ensures ∙ ap (λ (l : List ℕ). sets l 13 (bytes 4 h)) (c .before .before .before .before .before .before .before .before .before .before .put-u82 .ensures))
-    ∙ put-at o h
-    ∙ ap (λ (l : Last). sets o 12 (last-bytes l ++ bytes 4 142)) (sym (c .before .before .before .before .before .before .before .before .before .before .before .before .before .last .given .1))
+    ∙ ap (λ (o : List ℕ). sets o (a .at + 5) (bytes 4 142)) (c .before .before .before .before .before .before .put-u322 .ensures ∙ ap (λ (o : List ℕ). sets o (a .at + 1) (bytes 4 h)) (c .before .before .before .before .before .before .before .before .before .before .put-u82 .ensures))
+    ∙ put-at (a .out .now) (a .at) h
+    ∙ ap (λ (x : Last). sets (a .out .now) (a .at) (last-bytes x ++ bytes 4 142)) (sym (l .1))
 
 pub put-last-spec : {M : Type 1} → statement M
 put-last-spec =
@@ -64,10 +80,15 @@ put-last-spec =
     (tie.spec
     enum-told
     put-u8-requires
+    add-put-u32
+    cast-put-u32
     put-u32-requires
     enum-known-last
     put-u8-requires-2
+    add-put-u32-2
     put-u32-requires-2
+    add-put-u32-3
+    cast-put-u32-2
     put-u32-requires-3
     same-length
     returns
