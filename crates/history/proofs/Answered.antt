@@ -20,9 +20,9 @@ use Rattle.format.specs.Parts.{bad, good}
 use Rattle.format.specs.File.{Version, read-history, restored}
 use Rattle.format.specs.Calls.{has-room, taken-in, read-call}
 use Rattle.codec.specs.Places.{buckets-size}
-use Rattle.file.specs.Says.{head-size, filed, said, file-says}
-use Rattle.file.specs.declared.Checked.{Checked}
-use Rattle.file.specs.declared.head.Header.{Header}
+use Rattle.parse.specs.Says.{head-size, filed, said, file-says}
+use Rattle.parse.specs.declared.Checked.{Checked}
+use Rattle.parse.specs.declared.head.Header.{Header}
 
 -- what `refused` answers
 abbrev pub Refusing : Reading → ReadAnswer → Type 0

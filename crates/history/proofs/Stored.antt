@@ -21,10 +21,10 @@ use Rattle.rules.proofs.Bytes.{bytes-drop}
 use Rattle.rules.proofs.Memory.{confirmed-kept}
 use Rattle.format.specs.File.{Version, settled, restored}
 use Rattle.codec.specs.Places.{buckets-size, rows-at}
-use Rattle.file.specs.Places.{recents}
-use Rattle.file.specs.Says.{head-size, filed}
-use Rattle.file.proofs.Held.{Held}
-use Rattle.restore.proofs.Bridge.{same-count, same-table}
+use Rattle.parse.specs.Places.{recents}
+use Rattle.parse.specs.Says.{head-size, filed}
+use Rattle.parse.proofs.Held.{Held}
+use Rattle.settle.proofs.Bridge.{same-count, same-table}
 
 -- ---- what is stored
 

@@ -1,9 +1,5 @@
 // Reading a history file into the lent memory. Nothing is stored before the whole file is accepted.
 use codec::buckets::load_buckets;
-use file::Header;
-use file::check;
-use file::header_len;
-use file::record_size;
 use kinds::BUCKETS_SIZE;
 use kinds::CONFIRMED_SIZE;
 use kinds::COUNTS;
@@ -15,8 +11,12 @@ use kinds::MAX_PENDING_ENTRIES;
 use kinds::ReadAnswer;
 use kinds::Reading;
 use kinds::State;
-use reader::after;
-use restore::load_table;
+use parse::Header;
+use parse::after;
+use parse::check;
+use parse::header_len;
+use parse::record_size;
+use settle::load_table;
 ghost use mathlib.Core.Path.{_≡_};
 ghost use Prim.Native.Nat.{_≤_};
 ghost use lib.ListN.{length};
@@ -30,7 +30,7 @@ ghost use Rattle.rules.specs.Calls.{outcome, accepted};
 ghost use Rattle.format.specs.Parts.{good};
 ghost use Rattle.format.specs.File.{version-told, read-history, restored};
 ghost use Rattle.format.specs.Calls.{taken-in, read-call};
-ghost use Rattle.file.specs.Says.{filed};
+ghost use Rattle.parse.specs.Says.{filed};
 
 // A refusal, with an empty state.
 fn refused(answer: ReadAnswer) -> Reading

@@ -1,9 +1,6 @@
 // Writing the history file from the lent memory.
 use codec::buckets::put_buckets;
 use codec::numbers::put_records;
-use file::header_len;
-use file::put_header;
-use file::record_size;
 use kinds::BUCKETS_SIZE;
 use kinds::CONFIRMED_SIZE;
 use kinds::FileVersion;
@@ -13,6 +10,9 @@ use kinds::State;
 use kinds::WriteAnswer;
 use kinds::Written;
 use memory::judge_memory;
+use parse::header_len;
+use parse::put_header;
+use parse::record_size;
 ghost use mathlib.Core.Path.{_≡_};
 ghost use mathlib.Core.Bool.{true};
 ghost use Prim.Native.Nat.{_≤_};

@@ -5,7 +5,7 @@ use denote.Ref.{now}
 use Rattle.rules.specs.Board.{board-of}
 use Rattle.rules.specs.Memory.{Lent, lent}
 use Rattle.format.specs.Calls.{taken-in}
-use Rattle.file.specs.Says.{said}
+use Rattle.parse.specs.Says.{said}
 use Rattle.history.proofs.Answered.{few-confirmed, few-resolved, as-taken, file-refused, read-as}
 use borrow.Author.Needs.{needs}
 use Rattle.history.proofs.read.from_history_bytes.Statement.{statement}

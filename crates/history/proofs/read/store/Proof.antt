@@ -19,8 +19,8 @@ use Rattle.format.specs.Parts.{is-read}
 use Rattle.format.specs.File.{version-told, rates, read-buckets, settled}
 use Rattle.format.proofs.Back.{version-lawful}
 use Rattle.codec.specs.Places.{buckets-size, rows-at}
-use Rattle.file.specs.Says.{head-size}
-use Rattle.file.proofs.Held.{Held, held}
+use Rattle.parse.specs.Says.{head-size}
+use Rattle.parse.proofs.Held.{Held, held}
 use Rattle.history.proofs.Same.{same-records, same-size}
 use Rattle.history.proofs.Stored.{pending-whole, recent-whole, table-as, stored}
 use borrow.Author.Needs.{needs}
