@@ -5,6 +5,7 @@ use kinds::Connected;
 use kinds::Entered;
 use kinds::Estimated;
 use kinds::FeeRate;
+use kinds::FileVersion;
 use kinds::Height;
 use kinds::Horizon;
 use kinds::Left;
@@ -108,7 +109,16 @@ pub fn to_history_bytes(
         outcome (write-answer (r .answer)) (r .state) (output (r .len) (now (out .exit)))
         ≡ write-call version-1 base state (before confirmed resolved pending recent) (now (out .entry)) ⌝ }
 {
-    history::to_history_bytes(state, confirmed, resolved, pending, recent, out)
+    history::to_history_bytes(
+        state,
+        confirmed,
+        resolved,
+        pending,
+        recent,
+        out,
+        FileVersion::One,
+        Horizon::Base,
+    )
 }
 
 // Reads a history file into the lent memory.
@@ -123,5 +133,13 @@ pub fn from_history_bytes(
         outcome (read-answer (r .answer)) (r .state) (after confirmed resolved pending recent)
         ≡ read-call version-1 base (before confirmed resolved pending recent) (now (bytes .entry)) ⌝ }
 {
-    history::from_history_bytes(bytes, confirmed, resolved, pending, recent)
+    history::from_history_bytes(
+        bytes,
+        confirmed,
+        resolved,
+        pending,
+        recent,
+        FileVersion::One,
+        Horizon::Base,
+    )
 }

@@ -11,18 +11,18 @@ use Rattle.kinds.specs.declared.ReadAnswer.{ReadAnswer}
 use Rattle.kinds.specs.Answers.{read-answer}
 use Rattle.rules.specs.Counts.{places-of-counts}
 use Rattle.rules.specs.Records.{records}
-use Rattle.rules.specs.Board.{base, pending-size, pending-of, confirmed-size, confirmed-of}
+use Rattle.rules.specs.Board.{Board, confirmed-size, confirmed-of}
 use Rattle.rules.specs.Estimator.{fresh}
 use Rattle.rules.specs.Memory.{Lent, pending-capacity, confirmed-capacity, state-of}
 use Rattle.rules.specs.Calls.{outcome, accepted, refused}
 use Rattle.rules.proofs.Records.{length-records}
 use Rattle.format.specs.Parts.{bad, good}
-use Rattle.format.specs.File.{version-1, read-history, restored}
+use Rattle.format.specs.File.{Version, read-history, restored}
 use Rattle.format.specs.Calls.{has-room, taken-in, read-call}
 use Rattle.codec.specs.Places.{buckets-size}
-use Rattle.file.specs.Says.{head-size, filed, said, file-says}
-use Rattle.file.specs.declared.Checked.{Checked}
-use Rattle.file.specs.declared.head.Header.{Header}
+use Rattle.parse.specs.Says.{head-size, filed, said, file-says}
+use Rattle.parse.specs.declared.Checked.{Checked}
+use Rattle.parse.specs.declared.head.Header.{Header}
 
 -- what `refused` answers
 abbrev pub Refusing : Reading → ReadAnswer → Type 0
@@ -34,53 +34,55 @@ refusing r a l e =
 
 -- ---- a file that was read
 
-module _ (s : List ℕ) (last : Last) (n m : ℕ) (l : Lent) where
-  pending-many : length (filed last n m s .pending) ≡ n
-  pending-many = length-map (records pending-size n (drop (head-size last + buckets-size + 4) s)) pending-of ∙ length-records pending-size n (drop (head-size last + buckets-size + 4) s)
+module _ (v : Version) (k : Board) (s : List ℕ) (last : Last) (n m : ℕ) (l : Lent) where
+  pending-many : length (filed v last n m s .pending) ≡ n
+  pending-many =
+      let at = head-size v last + buckets-size + 4 in
+      length-map (records (v .records .size) n (drop at s)) (v .records .read) ∙ length-records (v .records .size) n (drop at s)
 
-  recent-many : length (filed last n m s .recent) ≡ m
+  recent-many : length (filed v last n m s .recent) ≡ m
   recent-many =
-      let at = head-size last + buckets-size + 4 + pending-size * n + 4 in
+      let at = head-size v last + buckets-size + 4 + n * v .records .size + 4 in
       length-map (records confirmed-size m (drop at s)) confirmed-of ∙ length-records confirmed-size m (drop at s)
 
   module _ (r : Reading) (e : Refusing r ReadAnswer.NoRoom) where
-    pub no-pending-room : pending-capacity base (l .pending) < n → outcome (read-answer (r .answer)) (r .state) l ≡ taken-in base l (good (filed last n m s))
+    pub no-pending-room : pending-capacity k (l .pending) < n → outcome (read-answer (r .answer)) (r .state) l ≡ taken-in k l (good (filed v last n m s))
     unfolding taken-in has-room
-    no-pending-room h = refusing r ReadAnswer.NoRoom l e ∙ sym (rw (pending-many, lt-leb n (pending-capacity base (l .pending)) h))
+    no-pending-room h = refusing r ReadAnswer.NoRoom l e ∙ sym (rw (pending-many, lt-leb n (pending-capacity k (l .pending)) h))
 
-    pub no-recent-room : n ≤ pending-capacity base (l .pending) → confirmed-capacity (l .recent) < m → outcome (read-answer (r .answer)) (r .state) l ≡ taken-in base l (good (filed last n m s))
+    pub no-recent-room : n ≤ pending-capacity k (l .pending) → confirmed-capacity (l .recent) < m → outcome (read-answer (r .answer)) (r .state) l ≡ taken-in k l (good (filed v last n m s))
     unfolding taken-in has-room
     no-recent-room g h =
         refusing r ReadAnswer.NoRoom l e
-        ∙ sym (rw (pending-many, recent-many, le-leb n (pending-capacity base (l .pending)) g, lt-leb m (confirmed-capacity (l .recent)) h))
+        ∙ sym (rw (pending-many, recent-many, le-leb n (pending-capacity k (l .pending)) g, lt-leb m (confirmed-capacity (l .recent)) h))
 
-  pub with-room : n ≤ pending-capacity base (l .pending) → m ≤ confirmed-capacity (l .recent) → accepted base (restored (filed last n m s)) l ≡ taken-in base l (good (filed last n m s))
+  pub with-room : n ≤ pending-capacity k (l .pending) → m ≤ confirmed-capacity (l .recent) → accepted k (restored (filed v last n m s)) l ≡ taken-in k l (good (filed v last n m s))
   unfolding taken-in has-room
-  with-room g h = sym (rw (pending-many, recent-many, le-leb n (pending-capacity base (l .pending)) g, le-leb m (confirmed-capacity (l .recent)) h))
+  with-room g h = sym (rw (pending-many, recent-many, le-leb n (pending-capacity k (l .pending)) g, le-leb m (confirmed-capacity (l .recent)) h))
 
 -- what a checked file is read as, by its header
-pub read-as : (c : Checked) (s : List ℕ) (h : Header) → c .header ≡ h → file-says c s ≡ read-history version-1 s → read-history version-1 s ≡ said h (c .pending) (c .recent) s
+pub read-as : (v : Version) (c : Checked) (s : List ℕ) (h : Header) → c .header ≡ h → file-says v c s ≡ read-history v s → read-history v s ≡ said v h (c .pending) (c .recent) s
 unfolding file-says
-read-as c s h e f = sym f ∙ ap (λ (x : Header). said x (c .pending) (c .recent) s) e
+read-as v c s h e f = sym f ∙ ap (λ (x : Header). said v x (c .pending) (c .recent) s) e
 
 -- ---- the call
 
-module _ (l : Lent) (s : List ℕ) where
+module _ (v : Version) (k : Board) (l : Lent) (s : List ℕ) where
   module _ (r : Reading) (e : Refusing r ReadAnswer.Damaged) where
-    pub few-confirmed : length (l .confirmed) < places-of-counts → outcome (read-answer (r .answer)) (r .state) l ≡ read-call version-1 base l s
+    pub few-confirmed : length (l .confirmed) < places-of-counts → outcome (read-answer (r .answer)) (r .state) l ≡ read-call v k l s
     unfolding read-call
     few-confirmed h = refusing r ReadAnswer.Damaged l e ∙ sym (rw (lt-leb places-of-counts (length (l .confirmed)) h))
 
-    pub few-resolved : places-of-counts ≤ length (l .confirmed) → length (l .resolved) < places-of-counts → outcome (read-answer (r .answer)) (r .state) l ≡ read-call version-1 base l s
+    pub few-resolved : places-of-counts ≤ length (l .confirmed) → length (l .resolved) < places-of-counts → outcome (read-answer (r .answer)) (r .state) l ≡ read-call v k l s
     unfolding read-call
     few-resolved g h =
         refusing r ReadAnswer.Damaged l e ∙ sym (rw (le-leb places-of-counts (length (l .confirmed)) g, lt-leb places-of-counts (length (l .resolved)) h))
 
   module _ (g : places-of-counts ≤ length (l .confirmed)) (h : places-of-counts ≤ length (l .resolved)) where
-    pub as-taken : taken-in base l (read-history version-1 s) ≡ read-call version-1 base l s
+    pub as-taken : taken-in k l (read-history v s) ≡ read-call v k l s
     unfolding read-call
     as-taken = sym (rw (le-leb places-of-counts (length (l .confirmed)) g, le-leb places-of-counts (length (l .resolved)) h))
 
-    pub file-refused : (r : Reading) (a : ReadAnswer) → Refusing r a → read-history version-1 s ≡ bad (read-answer a) → outcome (read-answer (r .answer)) (r .state) l ≡ read-call version-1 base l s
+    pub file-refused : (r : Reading) (a : ReadAnswer) → Refusing r a → read-history v s ≡ bad (read-answer a) → outcome (read-answer (r .answer)) (r .state) l ≡ read-call v k l s
     unfolding taken-in
-    file-refused r a e f = refusing r a l e ∙ sym (ap (taken-in base l) f) ∙ as-taken
+    file-refused r a e f = refusing r a l e ∙ sym (ap (taken-in k l) f) ∙ as-taken

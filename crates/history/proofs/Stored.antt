@@ -1,7 +1,7 @@
 -- What the reading call leaves, case by case: a refusal leaves all as it was, and a file that is stored is the estimator that its records make, laid.
 -- Assumes nothing.
-use mathlib.Core.Path.{_≡_, refl, ap, _∙_}
-use mathlib.Core.List.{List, [], _++_}
+use mathlib.Core.Path.{_≡_, refl, sym, ap, _∙_, subst}
+use mathlib.Core.List.{List, [], _++_, map}
 use Prim.Native.Nat.{ℕ, _+_, _*_, _≤_}
 use native.Mathlib.Omega.{arith}
 use lib.Dec.{T}
@@ -13,33 +13,20 @@ use Rattle.kinds.specs.Answers.{done}
 use Rattle.rules.specs.Ladder.{buckets}
 use Rattle.rules.specs.Counts.{places-of-counts}
 use Rattle.rules.specs.Records.{records, id-of, laid}
-use Rattle.rules.specs.Board.{base, pending-size, confirmed-size, confirmed-of}
+use Rattle.rules.specs.Board.{Board, Layout, Lawful, confirmed-size, confirmed-of}
+use Rattle.rules.specs.Estimator.{Estimator}
 use Rattle.rules.specs.Memory.{Lent, lent, pending-capacity, confirmed-capacity, lay-pending, lay-confirmed, state-of, lay}
 use Rattle.rules.specs.Calls.{Outcome, outcome, accepted}
 use Rattle.rules.proofs.Bytes.{bytes-drop}
-use Rattle.rules.proofs.Memory.{pending-kept, confirmed-kept}
-use Rattle.rules.proofs.Boards.{base-lawful}
-use Rattle.format.specs.File.{settled, restored}
+use Rattle.rules.proofs.Memory.{confirmed-kept}
+use Rattle.format.specs.File.{Version, settled, restored}
 use Rattle.codec.specs.Places.{buckets-size, rows-at}
-use Rattle.file.specs.Says.{head-size, filed}
-use Rattle.file.proofs.Held.{Held}
-use Rattle.restore.proofs.Bridge.{same-count, same-table}
+use Rattle.parse.specs.Places.{recents}
+use Rattle.parse.specs.Says.{head-size, filed}
+use Rattle.parse.proofs.Held.{Held}
+use Rattle.settle.proofs.Bridge.{same-count, same-table}
 
 -- ---- what is stored
-
--- a place of the code under the definition's name
-module _ (s : List ℕ) (last : Last) (at : ℕ) (e : at ≡ head-size last) where
-  pub pending-from : drop (at + 57940) s ≡ drop (head-size last + buckets-size + 4) s
-  pending-from = ap (λ (k : ℕ). drop k s) k
-    where
-      k : at + 57940 ≡ head-size last + buckets-size + 4
-      k = omega arith
-
-  pub recent-from : (n : ℕ) → drop (at + 57944 + 44 * n) s ≡ drop (head-size last + buckets-size + 4 + pending-size * n + 4) s
-  recent-from n = ap (λ (k : ℕ). drop k s) k
-    where
-      k : at + 57944 + 44 * n ≡ head-size last + buckets-size + 4 + pending-size * n + 4
-      k = omega arith
 
 -- a table under the definition's names
 pub table-as : (size n room cap : ℕ) (zs src xs ys : List ℕ) → room ≡ cap → zs ≡ src → ys ≡ laid size room (settled id-of [] (records size n zs)) xs → ys ≡ laid size cap (settled id-of [] (records size n src)) xs
@@ -54,48 +41,66 @@ confirmed-named : (b : List ℕ) → confirmed-of b .id ≡ id-of b
 unfolding confirmed-of
 confirmed-named b = refl
 
--- the two tables, and the numbers of their records
-module _ (s : List ℕ) (last : Last) (n m : ℕ) (b : T (areBytes s)) (h : Held s last n m) where
+-- ---- of version v, into the memory of board k
+
+module _ (v : Version) (k : Board) (law : Lawful k) (same : v .records ≡ k .table) (s : List ℕ) (last : Last) (n m : ℕ) (b : T (areBytes s)) (h : Held v s last n m) where
+  -- where the records of the tables begin
+  abbrev at : ℕ
+  at = head-size v last + buckets-size + 4
+
+  abbrev to : ℕ
+  to = head-size v last + buckets-size + 4 + n * v .records .size + 4
+
+  -- the two tables
   abbrev ps : List (List ℕ)
-  ps = settled id-of [] (records pending-size n (drop (head-size last + buckets-size + 4) s))
+  ps = settled id-of [] (records (k .table .size) n (drop at s))
 
   abbrev cs : List (List ℕ)
-  cs = settled id-of [] (records confirmed-size m (drop (head-size last + buckets-size + 4 + pending-size * n + 4) s))
+  cs = settled id-of [] (records confirmed-size m (drop to s))
 
-  pub pending-whole : n * pending-size ≤ length (drop (head-size last + buckets-size + 4) s)
-  pending-whole = rw length-drop (omega (arith, h .long))
+  pub pending-whole : n * k .table .size ≤ length (drop at s)
+  pending-whole = subst (λ (y : Layout). n * y .size ≤ length (drop at s)) same (rw length-drop (omega (arith, h .long)))
 
-  pub recent-whole : m * confirmed-size ≤ length (drop (head-size last + buckets-size + 4 + pending-size * n + 4) s)
+  pub recent-whole : m * confirmed-size ≤ length (drop to s)
   recent-whole = rw length-drop (omega (arith, h .long))
+
+  -- what the file holds, its pending records laid out so
+  abbrev held-as : Layout → Estimator
+  held-as y =
+      record {
+        last = last;
+        pending = map (y .read) (records (y .size) n (drop at s));
+        recent = recents s to m;
+        confirmed = rows-at buckets s (head-size v last + 8);
+        resolved = rows-at buckets s (head-size v last + 208);
+      }
 
   all-stored : (l : Lent)
       → made last (length ps) (length cs)
-      (rows-at buckets s (head-size last + 8) ++ drop places-of-counts (l .confirmed)) (rows-at buckets s (head-size last + 208) ++ drop places-of-counts (l .resolved))
-      (laid pending-size (pending-capacity base (l .pending)) ps (l .pending)) (laid confirmed-size (confirmed-capacity (l .recent)) cs (l .recent))
-      ≡ accepted base (restored (filed last n m s)) l
+      (rows-at buckets s (head-size v last + 8) ++ drop places-of-counts (l .confirmed)) (rows-at buckets s (head-size v last + 208) ++ drop places-of-counts (l .resolved))
+      (laid (k .table .size) (pending-capacity k (l .pending)) ps (l .pending)) (laid confirmed-size (confirmed-capacity (l .recent)) cs (l .recent))
+      ≡ accepted k (restored (held-as (k .table))) l
   unfolding state-of lay lay-pending lay-confirmed restored
   all-stored l =
-      let at = head-size last + buckets-size + 4 in
-      let to = head-size last + buckets-size + 4 + pending-size * n + 4 in
       rw (
-        same-count pending-kept (λ r. r .id) (base-lawful .named) n (drop at s),
+        same-count (law .kept) (λ r. r .id) (law .named) n (drop at s),
         same-count confirmed-kept (λ r. r .id) confirmed-named m (drop to s),
-        same-table pending-kept (λ r. r .id) (base-lawful .named) n (drop at s) pending-whole (bytes-drop at s b),
+        same-table (law .kept) (λ r. r .id) (law .named) n (drop at s) pending-whole (bytes-drop at s b),
         same-table confirmed-kept (λ r. r .id) confirmed-named m (drop to s) recent-whole (bytes-drop to s b),
       )
 
   pub stored : (l : Lent) (p q : ℕ) (c d : List Float) (x y : List ℕ)
       → p ≡ length ps
       → q ≡ length cs
-      → c ≡ rows-at buckets s (head-size last + 8) ++ drop places-of-counts (l .confirmed)
-      → d ≡ rows-at buckets s (head-size last + 208) ++ drop places-of-counts (l .resolved)
-      → x ≡ laid pending-size (pending-capacity base (l .pending)) ps (l .pending)
+      → c ≡ rows-at buckets s (head-size v last + 8) ++ drop places-of-counts (l .confirmed)
+      → d ≡ rows-at buckets s (head-size v last + 208) ++ drop places-of-counts (l .resolved)
+      → x ≡ laid (k .table .size) (pending-capacity k (l .pending)) ps (l .pending)
       → y ≡ laid confirmed-size (confirmed-capacity (l .recent)) cs (l .recent)
-      → made last p q c d x y ≡ accepted base (restored (filed last n m s)) l
+      → made last p q c d x y ≡ accepted k (restored (filed v last n m s)) l
   stored l p q c d x y ep eq ec ed ex ey =
-      let C = rows-at buckets s (head-size last + 8) ++ drop places-of-counts (l .confirmed) in
-      let D = rows-at buckets s (head-size last + 208) ++ drop places-of-counts (l .resolved) in
-      let X = laid pending-size (pending-capacity base (l .pending)) ps (l .pending) in
+      let C = rows-at buckets s (head-size v last + 8) ++ drop places-of-counts (l .confirmed) in
+      let D = rows-at buckets s (head-size v last + 208) ++ drop places-of-counts (l .resolved) in
+      let X = laid (k .table .size) (pending-capacity k (l .pending)) ps (l .pending) in
       ap (λ (z : ℕ). made last z q c d x y) ep
       ∙ ap (λ (z : ℕ). made last (length ps) z c d x y) eq
       ∙ ap (λ (z : List Float). made last (length ps) (length cs) z d x y) ec
@@ -103,3 +108,4 @@ module _ (s : List ℕ) (last : Last) (n m : ℕ) (b : T (areBytes s)) (h : Held
       ∙ ap (λ (z : List ℕ). made last (length ps) (length cs) C D z y) ex
       ∙ ap (λ (z : List ℕ). made last (length ps) (length cs) C D X z) ey
       ∙ all-stored l
+      ∙ ap (λ (z : Layout). accepted k (restored (held-as z)) l) (sym same)

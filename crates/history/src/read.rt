@@ -1,28 +1,36 @@
 // Reading a history file into the lent memory. Nothing is stored before the whole file is accepted.
 use codec::buckets::load_buckets;
-use file::Header;
-use file::check;
-use file::header_len;
+use kinds::BUCKETS_SIZE;
+use kinds::CONFIRMED_SIZE;
+use kinds::COUNTS;
+use kinds::FileVersion;
+use kinds::Horizon;
 use kinds::Last;
+use kinds::MAX_CONFIRMED_RECORDS;
+use kinds::MAX_PENDING_ENTRIES;
 use kinds::ReadAnswer;
 use kinds::Reading;
 use kinds::State;
-use reader::after;
-use restore::load_table;
+use parse::Header;
+use parse::after;
+use parse::check;
+use parse::header_len;
+use parse::record_size;
+use settle::load_table;
 ghost use mathlib.Core.Path.{_≡_};
 ghost use Prim.Native.Nat.{_≤_};
 ghost use lib.ListN.{length};
 ghost use Rattle.kinds.specs.Answers.{done, read-answer};
-ghost use Rattle.rules.specs.Board.{base};
+ghost use Rattle.rules.specs.Board.{board-of};
 ghost use Rattle.rules.specs.Counts.{places-of-counts};
 ghost use Rattle.rules.specs.Estimator.{fresh};
 ghost use Rattle.rules.specs.Memory.{state-of, pending-capacity, confirmed-capacity};
 ghost use Rattle.rules.specs.Slices.{before, after};
 ghost use Rattle.rules.specs.Calls.{outcome, accepted};
 ghost use Rattle.format.specs.Parts.{good};
-ghost use Rattle.format.specs.File.{version-1, read-history, restored};
+ghost use Rattle.format.specs.File.{version-told, read-history, restored};
 ghost use Rattle.format.specs.Calls.{taken-in, read-call};
-ghost use Rattle.file.specs.Says.{filed};
+ghost use Rattle.parse.specs.Says.{filed};
 
 // A refusal, with an empty state.
 fn refused(answer: ReadAnswer) -> Reading
@@ -30,16 +38,12 @@ fn refused(answer: ReadAnswer) -> Reading
 {
     Reading {
         answer,
-        state: State {
-            last: Last::Nothing,
-            pending: 0,
-            recent: 0,
-        },
+        state: State::empty(),
     }
 }
 
 // The counts and the n pending and m confirmed records of a file that was read are stored, the tables with room for `most` and `more` records.
-// Between the header and the records stand 57,936 bytes of buckets, and before each table's records their number in four bytes.
+// Between the header and the records stand the buckets, and before each table's records their number in four bytes.
 fn store(
     bytes: &[u8],
     last: Last,
@@ -51,19 +55,24 @@ fn store(
     recent: &mut [u8],
     most: usize,
     more: usize,
+    version: FileVersion,
+    on: Horizon,
 ) -> State
-    requires { ⌜ read-history version-1 (now bytes) ≡ good (filed last n m (now bytes)) ⌝ }
+    requires { ⌜ read-history (version-told version) (now bytes) ≡ good (filed (version-told version) last n m (now bytes)) ⌝ }
     requires { ⌜ (places-of-counts ≤ length (now confirmed)) × (places-of-counts ≤ length (now resolved)) ⌝ }
-    requires { ⌜ (n ≤ most) × (most ≡ pending-capacity base (now pending)) ⌝ }
+    requires { ⌜ (n ≤ most) × (most ≡ pending-capacity (board-of on) (now pending)) ⌝ }
     requires { ⌜ (m ≤ more) × (more ≡ confirmed-capacity (now recent)) ⌝ }
     ensures { λ r. ⌜
         outcome done r (after confirmed resolved pending recent)
-        ≡ accepted base (restored (filed last n m (now (bytes .entry)))) (before confirmed resolved pending recent) ⌝ }
+        ≡ accepted (board-of on) (restored (filed (version-told version) last n m (now (bytes .entry)))) (before confirmed resolved pending recent) ⌝ }
 {
-    let at = header_len(last);
+    let size = boards::record_size(on);
+    let at = header_len(last, version);
+    let first = at + BUCKETS_SIZE + 4;
+    let next = first + n * record_size(version) + 4;
     load_buckets(bytes, at, confirmed, resolved);
-    let p = load_table(pending, after(bytes, at + 57940), 44, n, most);
-    let q = load_table(recent, after(bytes, at + 57944 + 44 * n), 36, m, more);
+    let p = load_table(pending, after(bytes, first), size, n, most);
+    let q = load_table(recent, after(bytes, next), CONFIRMED_SIZE, m, more);
     State {
         last,
         pending: p,
@@ -81,18 +90,20 @@ fn take_in(
     resolved: &mut [f64],
     pending: &mut [u8],
     recent: &mut [u8],
+    version: FileVersion,
+    on: Horizon,
 ) -> Reading
-    requires { ⌜ read-history version-1 (now bytes) ≡ good (filed last n m (now bytes)) ⌝ }
+    requires { ⌜ read-history (version-told version) (now bytes) ≡ good (filed (version-told version) last n m (now bytes)) ⌝ }
     requires { ⌜ (places-of-counts ≤ length (now confirmed)) × (places-of-counts ≤ length (now resolved)) ⌝ }
     ensures { λ r. ⌜
         outcome (read-answer (r .answer)) (r .state) (after confirmed resolved pending recent)
-        ≡ taken-in base (before confirmed resolved pending recent) (good (filed last n m (now (bytes .entry)))) ⌝ }
+        ≡ taken-in (board-of on) (before confirmed resolved pending recent) (good (filed (version-told version) last n m (now (bytes .entry)))) ⌝ }
 {
-    let most = table::capacity(pending, 44, 10000);
+    let most = table::capacity(pending, boards::record_size(on), MAX_PENDING_ENTRIES);
     if most < n {
         return refused(ReadAnswer::NoRoom);
     }
-    let more = table::capacity(recent, 36, 1000000);
+    let more = table::capacity(recent, CONFIRMED_SIZE, MAX_CONFIRMED_RECORDS);
     if more < m {
         return refused(ReadAnswer::NoRoom);
     }
@@ -107,6 +118,8 @@ fn take_in(
         recent,
         most,
         more,
+        version,
+        on,
     );
     Reading {
         answer: ReadAnswer::Done,
@@ -114,25 +127,27 @@ fn take_in(
     }
 }
 
-// Reads a history file.
+// Reads a history file, of this version and into the memory of this board.
 pub fn from_history_bytes(
     bytes: &[u8],
     confirmed: &mut [f64],
     resolved: &mut [f64],
     pending: &mut [u8],
     recent: &mut [u8],
+    version: FileVersion,
+    on: Horizon,
 ) -> Reading
     ensures { λ r. ⌜
         outcome (read-answer (r .answer)) (r .state) (after confirmed resolved pending recent)
-        ≡ read-call version-1 base (before confirmed resolved pending recent) (now (bytes .entry)) ⌝ }
+        ≡ read-call (version-told version) (board-of on) (before confirmed resolved pending recent) (now (bytes .entry)) ⌝ }
 {
-    if confirmed.len() < 3550 {
+    if confirmed.len() < COUNTS {
         return refused(ReadAnswer::Damaged);
     }
-    if resolved.len() < 3550 {
+    if resolved.len() < COUNTS {
         return refused(ReadAnswer::Damaged);
     }
-    let c = check(bytes);
+    let c = check(bytes, version);
     let header = c.header;
     let n = c.pending;
     let m = c.recent;
@@ -140,6 +155,17 @@ pub fn from_history_bytes(
         Header::BadMagic => refused(ReadAnswer::BadMagic),
         Header::UnknownVersion(v) => refused(ReadAnswer::UnknownVersion(v)),
         Header::Corrupt => refused(ReadAnswer::Corrupt),
-        Header::Good(last) => take_in(bytes, last, n, m, confirmed, resolved, pending, recent),
+        Header::Good(last) => take_in(
+            bytes,
+            last,
+            n,
+            m,
+            confirmed,
+            resolved,
+            pending,
+            recent,
+            version,
+            on,
+        ),
     }
 }

@@ -2,10 +2,10 @@
 use mathlib.Core.Path.{ap, _∙_, sym}
 use native.Mathlib.Omega.{arith}
 use denote.Ref.{now}
-use Rattle.rules.specs.Board.{base}
+use Rattle.rules.specs.Board.{board-of}
 use Rattle.rules.specs.Memory.{Lent, lent}
 use Rattle.format.specs.Calls.{taken-in}
-use Rattle.file.specs.Says.{said}
+use Rattle.parse.specs.Says.{said}
 use Rattle.history.proofs.Answered.{few-confirmed, few-resolved, as-taken, file-refused, read-as}
 use borrow.Author.Needs.{needs}
 use Rattle.history.proofs.read.from_history_bytes.Statement.{statement}
@@ -24,7 +24,7 @@ refused-requires c κs = search needs
 returns : tie.Need-returns
 returns c =
     let s = c .before .before .before .before .before .before .before in
-    few-confirmed (given s) (now (s .args .bytes)) (c .refused .result) (c .refused .ensures) (omega arith)
+    few-confirmed _ _ (given s) (now (s .args .bytes)) (c .refused .result) (c .refused .ensures) (omega arith)
 
 refused-requires-2 : tie.Need-refused-requires-2
 refused-requires-2 c κs = search needs
@@ -32,7 +32,7 @@ refused-requires-2 c κs = search needs
 returns-2 : tie.Need-returns-2
 returns-2 c =
     let s = c .before .before .before .before .before .before .before .before in
-    few-resolved (given s) (now (s .args .bytes)) (c .refused2 .result) (c .refused2 .ensures) (omega arith) (omega arith)
+    few-resolved _ _ (given s) (now (s .args .bytes)) (c .refused2 .result) (c .refused2 .ensures) (omega arith) (omega arith)
 
 check-requires : tie.Need-check-requires
 check-requires c κs = search needs
@@ -62,31 +62,31 @@ take-in-requires : tie.Need-take-in-requires
 unfolding said
 take-in-requires c κs =
     let k = c .before .before .before .before .before .before .before in
-    (read-as (k .check .result) (now (start k .args .bytes)) _ (c .before .before .before .before .before .header2 .given .1) (k .check .ensures), (omega arith, omega arith))
+    (read-as _ (k .check .result) (now (start k .args .bytes)) _ (c .before .before .before .before .before .header2 .given .1) (k .check .ensures), (omega arith, omega arith))
 
 returns-3 : tie.Need-returns-3
 unfolding said
 returns-3 c =
     let k = c .before .before .before in
     let s = start k in
-    file-refused (given s) (now (s .args .bytes)) (omega arith) (omega arith) (c .refused3 .result) _ (c .refused3 .ensures)
-    (read-as (k .check .result) (now (s .args .bytes)) _ (c .before .enum-told .given .1) (k .check .ensures))
+    file-refused _ _ (given s) (now (s .args .bytes)) (omega arith) (omega arith) (c .refused3 .result) _ (c .refused3 .ensures)
+    (read-as _ (k .check .result) (now (s .args .bytes)) _ (c .before .enum-told .given .1) (k .check .ensures))
 
 returns-4 : tie.Need-returns-4
 unfolding said
 returns-4 c =
     let k = c .before .before .before .before in
     let s = start k in
-    file-refused (given s) (now (s .args .bytes)) (omega arith) (omega arith) (c .refused4 .result) _ (c .refused4 .ensures)
-    (read-as (k .check .result) (now (s .args .bytes)) _ (c .before .before .header .given .1) (k .check .ensures))
+    file-refused _ _ (given s) (now (s .args .bytes)) (omega arith) (omega arith) (c .refused4 .result) _ (c .refused4 .ensures)
+    (read-as _ (k .check .result) (now (s .args .bytes)) _ (c .before .before .header .given .1) (k .check .ensures))
 
 returns-5 : tie.Need-returns-5
 unfolding said
 returns-5 c =
     let k = c .before .before .before in
     let s = start k in
-    file-refused (given s) (now (s .args .bytes)) (omega arith) (omega arith) (c .refused5 .result) _ (c .refused5 .ensures)
-    (read-as (k .check .result) (now (s .args .bytes)) _ (c .before .enum-told2 .given .1) (k .check .ensures))
+    file-refused _ _ (given s) (now (s .args .bytes)) (omega arith) (omega arith) (c .refused5 .result) _ (c .refused5 .ensures)
+    (read-as _ (k .check .result) (now (s .args .bytes)) _ (c .before .enum-told2 .given .1) (k .check .ensures))
 
 same-length : tie.Need-same-length
 same-length c = search needs
@@ -107,8 +107,8 @@ returns-6 c =
     let k = t .before .before .before .before .before .before .before .before in
     let s = start k in
     t .take-in .ensures
-    ∙ ap (taken-in base (given s)) (sym (read-as (k .check .result) (now (s .args .bytes)) _ (t .before .before .before .before .before .before .header2 .given .1) (k .check .ensures)))
-    ∙ as-taken (given s) (now (s .args .bytes)) (omega arith) (omega arith)
+    ∙ ap (taken-in (board-of (s .args .on)) (given s)) (sym (read-as _ (k .check .result) (now (s .args .bytes)) _ (t .before .before .before .before .before .before .header2 .given .1) (k .check .ensures)))
+    ∙ as-taken _ _ (given s) (now (s .args .bytes)) (omega arith) (omega arith)
 
 pub from-history-bytes-spec : {M : Type 1} → statement M
 from-history-bytes-spec =

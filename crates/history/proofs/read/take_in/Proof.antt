@@ -1,16 +1,26 @@
 -- `history::read::take_in` meets its contract: each capacity is compared with its number of records, and a file that fits is stored. Assumes nothing.
-use mathlib.Core.Path.{_∙_}
+use mathlib.Core.Path.{_≡_, ap, _∙_}
+use Prim.Native.Nat.{ℕ, _≤_}
 use native.Mathlib.Omega.{arith}
 use denote.Ref.{now}
-use Rattle.rules.specs.Memory.{lent}
+use Rattle.rules.specs.Board.{board-of, pending-most}
+use Rattle.rules.specs.Records.{capacity}
+use Rattle.rules.specs.Memory.{Lent, lent, pending-capacity}
+use Rattle.format.specs.File.{version-told}
 use Rattle.history.proofs.Answered.{no-pending-room, no-recent-room, with-room}
 use borrow.Author.Needs.{needs}
 use Rattle.history.proofs.read.take_in.Statement.{statement}
 use Rattle.history.proofs.read.take_in.Tie as tie
 
--- the beginning, from where both capacities are known
-abbrev start : tie.After-capacity2 → tie.Start
-start c = c .before .before .before .before .before .before .before .before .before .before
+abbrev memory : tie.Start → Lent
+memory s = let a = s .args in lent (now (a .confirmed)) (now (a .resolved)) (now (a .pending)) (now (a .recent))
+
+-- the capacity of the pending table, as the board has it
+most : (k : tie.After-capacity) → k .capacity .result ≡ pending-capacity (board-of (k .before .before .before .before .before .before .before .before .args .on)) (now (k .before .before .before .before .before .before .before .before .args .pending))
+most k = k .capacity .ensures ∙ ap (λ (z : ℕ). capacity z pending-most (now (k .before .before .before .before .before .before .before .before .args .pending))) (k .before .record-size .ensures .0)
+
+record-size-requires : tie.Need-record-size-requires
+record-size-requires c κs = search needs
 
 capacity-requires : tie.Need-capacity-requires
 capacity-requires c κs = search needs
@@ -23,9 +33,9 @@ same-length c = search needs
 
 returns : tie.Need-returns
 returns c =
-    let a = c .before .before .before .before .before .before .before .before .before .args in
-    let l = lent (now (a .confirmed)) (now (a .resolved)) (now (a .pending)) (now (a .recent)) in
-    no-pending-room (now (a .bytes)) (a .last) (a .n) (a .m) l (c .refused .result) (c .refused .ensures) (omega (arith, c .before .before .capacity .ensures, c .before .if1 .taken))
+    let s = c .before .before .before .before .before .before .before .before .before .before in
+    let a = s .args in
+    no-pending-room (version-told (a .version)) (board-of (a .on)) (now (a .bytes)) (a .last) (a .n) (a .m) (memory s) (c .refused .result) (c .refused .ensures) (omega (arith, most (c .before .before), c .before .if1 .taken))
 
 capacity-requires-2 : tie.Need-capacity-requires-2
 capacity-requires-2 c κs = search needs
@@ -41,23 +51,20 @@ same-length-3 c = search needs
 
 returns-2 : tie.Need-returns-2
 returns-2 c =
-    let k = c .before .before in
-    let a = start k .args in
-    let l = lent (now (a .confirmed)) (now (a .resolved)) (now (a .pending)) (now (a .recent)) in
-    no-recent-room (now (a .bytes)) (a .last) (a .n) (a .m) l (c .refused2 .result) (c .refused2 .ensures)
-    (omega (arith, k .before .before .before .capacity .ensures, k .before .before .if1 .left))
-    (omega (arith, k .capacity2 .ensures, c .before .if2 .taken))
+    let s = c .before .before .before .before .before .before .before .before .before .before .before .before .before in
+    let a = s .args in
+    no-recent-room (version-told (a .version)) (board-of (a .on)) (now (a .bytes)) (a .last) (a .n) (a .m) (memory s) (c .refused2 .result) (c .refused2 .ensures)
+    (omega (arith, most (c .before .before .before .before .before), c .before .before .before .before .if1 .left)) (omega (arith, c .before .before .capacity2 .ensures, c .before .if2 .taken))
 
 store-requires : tie.Need-store-requires
 store-requires c κs =
-    let k = c .before .before .before .before .before in
-    let s = start k in (
+    let s = c .before .before .before .before .before .before .before .before .before .before .before .before .before .before .before .before in (
       s .pre .0,
       (
         s .pre .1,
         (
-          (omega (arith, k .before .before .if1 .left), k .before .before .before .capacity .ensures),
-          (omega (arith, c .before .before .before .before .if2 .left), k .capacity2 .ensures),
+          (omega (arith, c .before .before .before .before .before .before .before .if1 .left), most (c .before .before .before .before .before .before .before .before)),
+          (omega (arith, c .before .before .before .before .if2 .left), c .before .before .before .before .before .capacity2 .ensures),
         ),
       ),
     )
@@ -76,18 +83,17 @@ same-length-7 c = search needs
 
 returns-3 : tie.Need-returns-3
 returns-3 c =
-    let k = c .before .before .before .before .before .before .before .before .before .before .before .before .before .before in
-    let a = start k .args in
-    let l = lent (now (a .confirmed)) (now (a .resolved)) (now (a .pending)) (now (a .recent)) in
+    let s = c .before .before .before .before .before .before .before .before .before .before .before .before .before .before .before .before .before .before .before .before .before .before .before .before .before in
+    let a = s .args in
     c .before .before .before .before .before .before .before .before .store .ensures
-    ∙ with-room (now (a .bytes)) (a .last) (a .n) (a .m) l
-    (omega (arith, k .before .before .before .capacity .ensures, k .before .before .if1 .left))
-    (omega (arith, k .capacity2 .ensures, c .before .before .before .before .before .before .before .before .before .before .before .before .before .if2 .left))
+    ∙ with-room (version-told (a .version)) (board-of (a .on)) (now (a .bytes)) (a .last) (a .n) (a .m) (memory s)
+    (omega (arith, most (c .before .before .before .before .before .before .before .before .before .before .before .before .before .before .before .before .before), c .before .before .before .before .before .before .before .before .before .before .before .before .before .before .before .before .if1 .left)) (omega (arith, c .before .before .before .before .before .before .before .before .before .before .before .before .before .before .capacity2 .ensures, c .before .before .before .before .before .before .before .before .before .before .before .before .before .if2 .left))
 
 pub take-in-spec : {M : Type 1} → statement M
 take-in-spec =
     tie.close
     (tie.spec
+    record-size-requires
     capacity-requires
     refused-requires
     same-length

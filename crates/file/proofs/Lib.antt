@@ -1,6 +1,0 @@
-pub mod Same
-pub mod Header
-pub mod Listed
-pub mod Whole
-pub mod Judged
-pub mod Held

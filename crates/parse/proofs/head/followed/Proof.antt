@@ -1,0 +1,44 @@
+-- `parse::head::followed` meets its contract, by the version. Assumes nothing.
+use mathlib.Core.Path.{sym, ap, _∙_}
+use Prim.Native.Nat.{ℕ}
+use native.Mathlib.Omega.{arith}
+use lib.Dec.{eqb}
+use lib.ListN.{drop}
+use Rattle.kinds.specs.declared.FileVersion.{FileVersion}
+use Rattle.rules.proofs.Bytes.{are-bytes}
+use Rattle.format.specs.Parts.{is-read}
+use Rattle.format.specs.File.{version-told, read-after}
+use Rattle.parse.proofs.Header.{after-one, after-short, after-three}
+use borrow.Author.Needs.{needs}
+use Rattle.parse.proofs.head.followed.Statement.{statement}
+use Rattle.parse.proofs.head.followed.Tie as tie
+
+enum-told : tie.Need-enum-told
+enum-told c = search needs
+
+enum-told-2 : tie.Need-enum-told-2
+enum-told-2 c = search needs
+
+returns : tie.Need-returns
+returns c =
+    let s = c .before .before .before .before .args .s .now in
+    sym (ap (λ (v : FileVersion). is-read (read-after (version-told v) (drop 12 s))) (c .before .enum-told2 .given .1) ∙ after-short s (omega arith) (omega arith))
+
+u32-le-requires : tie.Need-u32-le-requires
+u32-le-requires c κs = search needs
+
+returns-2 : tie.Need-returns-2
+returns-2 c =
+    let s = c .before .before .before .args .s .now in
+    sym (ap (λ (v : FileVersion). is-read (read-after (version-told v) (drop 12 s))) (c .enum-told .given .1) ∙ after-one (drop 12 s))
+
+returns-3 : tie.Need-returns-3
+returns-3 c =
+    let s = c .before .before .before .before .before .args .s .now in
+    let b = are-bytes s (λ i. c .before .before .before .before .shared-slice-known .given i .fits) in
+    ap (λ (n : ℕ). eqb n 6) (c .u32-le .ensures)
+    ∙ sym (ap (λ (v : FileVersion). is-read (read-after (version-told v) (drop 12 s))) (c .before .before .enum-told2 .given .1) ∙ after-three s (omega arith) b)
+
+pub followed-spec : {M : Type 1} → statement M
+followed-spec =
+    tie.close (tie.spec enum-told enum-told-2 returns u32-le-requires returns-2 returns-3)

@@ -1,0 +1,96 @@
+-- `parse::head::put_last` meets its contract, by the last height: the puts stand one after the other. Assumes nothing.
+use mathlib.Core.Path.{_≡_, sym, ap, _∙_}
+use mathlib.Core.List.{List, _++_}
+use Prim.Native.Nat.{ℕ, _+_}
+use native.Mathlib.Omega.{arith}
+use lib.Seq.{sets}
+use Rattle.kinds.specs.declared.Last.{Last}
+use Rattle.rules.specs.Bytes.{bytes}
+use Rattle.format.specs.File.{height-length, last-bytes}
+use Rattle.parse.proofs.Header.{put-none, put-at}
+use borrow.Author.Needs.{needs}
+use Rattle.parse.proofs.head.put_last.Statement.{statement}
+use Rattle.parse.proofs.head.put_last.Tie as tie
+
+enum-told : tie.Need-enum-told
+enum-told c = search needs
+
+put-u8-requires : tie.Need-put-u8-requires
+put-u8-requires c κs = search needs
+
+add-put-u32 : tie.Need-add-put-u32
+add-put-u32 c = search needs
+
+cast-put-u32 : tie.Need-cast-put-u32
+cast-put-u32 c = search needs
+
+put-u32-requires : tie.Need-put-u32-requires
+put-u32-requires c κs = search needs
+
+enum-known-last : tie.Need-enum-known-last
+enum-known-last c = search needs
+
+put-u8-requires-2 : tie.Need-put-u8-requires-2
+put-u8-requires-2 c κs = search needs
+
+add-put-u32-2 : tie.Need-add-put-u32-2
+add-put-u32-2 c = search needs
+
+put-u32-requires-2 : tie.Need-put-u32-requires-2
+put-u32-requires-2 c κs = search needs
+
+add-put-u32-3 : tie.Need-add-put-u32-3
+add-put-u32-3 c = search needs
+
+cast-put-u32-2 : tie.Need-cast-put-u32-2
+cast-put-u32-2 c = search needs
+
+put-u32-requires-3 : tie.Need-put-u32-requires-3
+put-u32-requires-3 c κs =
+    let e : height-length (c .before .before .before .before .before .before .before .before .before .before .before .before .before .args .last) ≡ 4 = ap height-length (c .before .before .before .before .before .before .before .before .before .before .last .given .1) in
+    omega (arith, e)
+
+same-length : tie.Need-same-length
+same-length c = search needs
+
+returns : tie.Need-returns
+returns c =
+    let a = c .before .before .before .before .before .before .before .before .before .before .before .args in
+    c .before .before .put-u32 .ensures
+    ∙ ap (λ (l : List ℕ). sets l (a .at + 1) (bytes 4 142)) (c .before .before .before .before .before .before .put-u8 .ensures)
+    ∙ put-none (a .out .now) (a .at)
+    ∙ ap (λ (l : Last). sets (a .out .now) (a .at) (last-bytes l ++ bytes 4 142)) (sym (c .before .before .before .before .before .before .before .before .enum-told .given .1))
+
+same-length-2 : tie.Need-same-length-2
+same-length-2 c = search needs
+
+returns-2 : tie.Need-returns-2
+returns-2 c =
+    let a = c .before .before .before .before .before .before .before .before .before .before .before .before .before .before .before .before .args in
+    let l = c .before .before .before .before .before .before .before .before .before .before .before .before .before .last .given in
+    let h = l .0 .0 .0 in
+    c .before .before .put-u323 .ensures
+    ∙ ap (λ (o : List ℕ). sets o (a .at + 5) (bytes 4 142)) (c .before .before .before .before .before .before .put-u322 .ensures ∙ ap (λ (o : List ℕ). sets o (a .at + 1) (bytes 4 h)) (c .before .before .before .before .before .before .before .before .before .before .put-u82 .ensures))
+    ∙ put-at (a .out .now) (a .at) h
+    ∙ ap (λ (x : Last). sets (a .out .now) (a .at) (last-bytes x ++ bytes 4 142)) (sym (l .1))
+
+pub put-last-spec : {M : Type 1} → statement M
+put-last-spec =
+    tie.close
+    (tie.spec
+    enum-told
+    put-u8-requires
+    add-put-u32
+    cast-put-u32
+    put-u32-requires
+    enum-known-last
+    put-u8-requires-2
+    add-put-u32-2
+    put-u32-requires-2
+    add-put-u32-3
+    cast-put-u32-2
+    put-u32-requires-3
+    same-length
+    returns
+    same-length-2
+    returns-2)

@@ -1,0 +1,85 @@
+-- `parse::head::starts` meets its contract: each return is one case of the flag. Assumes nothing.
+use mathlib.Core.Path.{_≡_, sym, ap, _∙_}
+use Prim.Native.Nat.{ℕ, _+_}
+use native.Mathlib.Omega.{arith}
+use lib.ListN.{drop, getD}
+use Rattle.kinds.specs.declared.Last.the-variants.{At}
+use Rattle.format.specs.Parts.{begun}
+use Rattle.format.specs.File.{with-bucket-count}
+use Rattle.parse.specs.Says.{header-says}
+use Rattle.parse.proofs.Header.{no-flag, flag-none, flag-other, flag-short, flag-at}
+use borrow.Author.Needs.{needs}
+use Rattle.parse.proofs.head.starts.Statement.{statement}
+use Rattle.parse.proofs.head.starts.Tie as tie
+
+sub-if1 : tie.Need-sub-if1
+sub-if1 c = search needs
+
+returns : tie.Need-returns
+unfolding header-says begun
+returns c = let a = c .before .before .args in sym (ap begun (no-flag (a .s .now) (a .at) (omega arith) (omega arith)))
+
+shared-slice-read-flag : tie.Need-shared-slice-read-flag
+shared-slice-read-flag c = search needs
+
+add-ends : tie.Need-add-ends
+add-ends c = search needs
+
+ends-requires : tie.Need-ends-requires
+ends-requires c κs = search needs
+
+returns-2 : tie.Need-returns-2
+returns-2 c = let a = c .before .before .before .before .before .args in c .ends .ensures ∙ ap begun (sym (flag-none (a .s .now) (a .at) (omega arith) (omega arith)))
+
+returns-3 : tie.Need-returns-3
+unfolding header-says begun
+returns-3 c =
+    let a = c .before .before .before .before .before .args in
+    let f : getD (a .s .now) (a .at) 0 ≡ 0 → ⊥ = λ e. omega arith in
+    let g : getD (a .s .now) (a .at) 0 ≡ 1 → ⊥ = λ e. omega arith in
+    sym (ap begun (flag-other (a .s .now) (a .at) (omega arith) f g))
+
+sub-if4 : tie.Need-sub-if4
+sub-if4 c = search needs
+
+returns-4 : tie.Need-returns-4
+unfolding header-says begun
+returns-4 c = let a = c .before .before .before .before .before .before .args in sym (ap begun (flag-short (a .s .now) (a .at) (omega arith) (omega arith) (omega arith)))
+
+add-u32-le : tie.Need-add-u32-le
+add-u32-le c = search needs
+
+u32-le-requires : tie.Need-u32-le-requires
+u32-le-requires c κs = search needs
+
+add-ends-2 : tie.Need-add-ends-2
+add-ends-2 c = search needs
+
+ends-requires-2 : tie.Need-ends-requires-2
+ends-requires-2 c κs = search needs
+
+returns-5 : tie.Need-returns-5
+returns-5 c =
+    let a = c .before .before .before .before .before .before .before .before .args in
+    c .ends2 .ensures
+    ∙ ap (λ (n : ℕ). begun (with-bucket-count (At (record { 0 = n })) (drop (a .at + 5) (a .s .now)))) (c .before .u32-le .ensures)
+    ∙ ap begun (sym (flag-at (a .s .now) (a .at) (omega arith) (omega arith)))
+
+pub starts-spec : {M : Type 1} → statement M
+starts-spec =
+    tie.close
+    (tie.spec
+    sub-if1
+    returns
+    shared-slice-read-flag
+    add-ends
+    ends-requires
+    returns-2
+    returns-3
+    sub-if4
+    returns-4
+    add-u32-le
+    u32-le-requires
+    add-ends-2
+    ends-requires-2
+    returns-5)

@@ -1,0 +1,84 @@
+-- `parse::tables::listed` meets its contract: each return is one reason why a table is not there, or its number. Assumes nothing.
+use mathlib.Core.Path.{_≡_, sym, ap, _∙_}
+use Prim.Native.Nat.{ℕ, _*_, _≤_}
+use native.Mathlib.Nat.{mul-le-mul-right}
+use native.Mathlib.Omega.{arith}
+use Rattle.mem.specs.Le.{le-at}
+use Rattle.parse.proofs.Listed.{has-many, has-short, has-yes, never}
+use borrow.Author.Needs.{needs}
+use Rattle.parse.proofs.tables.listed.Statement.{statement}
+use Rattle.parse.proofs.tables.listed.Tie as tie
+
+sub-if1 : tie.Need-sub-if1
+sub-if1 c = search needs
+
+unlisted-requires : tie.Need-unlisted-requires
+unlisted-requires c κs = search needs
+
+returns : tie.Need-returns
+returns c =
+    let a = c .before .before .before .args in
+    let f = c .unlisted .ensures in
+    (f ∙ sym (has-short (a .size) (a .most) (a .s .now) (a .at) (omega arith)), never _ f)
+
+u32-le-requires : tie.Need-u32-le-requires
+u32-le-requires c κs = search needs
+
+cast-n : tie.Need-cast-n
+cast-n c = search needs
+
+unlisted-requires-2 : tie.Need-unlisted-requires-2
+unlisted-requires-2 c κs = search needs
+
+returns-2 : tie.Need-returns-2
+returns-2 c =
+    let a = c .before .before .before .before .before .args in
+    let f = c .unlisted2 .ensures in
+    (f ∙ sym (has-many (a .size) (a .most) (a .s .now) (a .at) (omega (arith, c .before .before .u32-le .ensures, c .before .if2 .taken))), never _ f)
+
+sub-if3 : tie.Need-sub-if3
+sub-if3 c = search needs
+
+sub-if3-2 : tie.Need-sub-if3-2
+sub-if3-2 c = search needs
+
+mul-if3 : tie.Need-mul-if3
+mul-if3 c =
+    let a = c .before .before .before .before .args in
+    let n = c .before .u32-le .result in
+    let h : n ≤ 1000000 = omega arith in
+    omega (arith, mul-le-mul-right (a .size) h)
+
+unlisted-requires-3 : tie.Need-unlisted-requires-3
+unlisted-requires-3 c κs = search needs
+
+returns-3 : tie.Need-returns-3
+returns-3 c =
+    let a = c .before .before .before .before .before .before .args in
+    let f = c .unlisted3 .ensures in
+    let e = ap (λ (n : ℕ). n * a .size) (c .before .before .before .u32-le .ensures) in
+    (f ∙ sym (has-short (a .size) (a .most) (a .s .now) (a .at) (omega (arith, e, c .before .if3 .taken))), never _ f)
+
+returns-4 : tie.Need-returns-4
+returns-4 c =
+    let a = c .before .before .before .before .before .args in
+    let e = ap (λ (n : ℕ). n * a .size) (c .before .before .u32-le .ensures) in
+    (sym (has-yes (a .size) (a .most) (a .s .now) (a .at) (omega (arith, c .before .before .u32-le .ensures, c .before .if2 .left)) (omega (arith, e, c .if3 .left))), λ t. c .before .before .u32-le .ensures)
+
+pub listed-spec : {M : Type 1} → statement M
+listed-spec =
+    tie.close
+    (tie.spec
+    sub-if1
+    unlisted-requires
+    returns
+    u32-le-requires
+    cast-n
+    unlisted-requires-2
+    returns-2
+    sub-if3
+    sub-if3-2
+    mul-if3
+    unlisted-requires-3
+    returns-3
+    returns-4)

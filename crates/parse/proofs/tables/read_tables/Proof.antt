@@ -1,0 +1,167 @@
+-- `parse::tables::read_tables` meets its contract: each return is one case of `Listed`, in the order that the bytes come. Assumes nothing.
+use mathlib.Core.Path.{_≡_, refl, sym, ap, _∙_}
+use mathlib.Core.Bool.{true, false}
+use mathlib.Core.List.{List, map}
+use Prim.Native.Nat.{ℕ, _+_, _*_, _≤_}
+use native.Mathlib.Omega.{arith}
+use denote.Ref.{now}
+use borrow.Author.Tests.{not-true, not-false}
+use lib.ListN.{length, drop}
+use Rattle.kinds.specs.Answers.{corrupt}
+use Rattle.rules.specs.Lists.{every}
+use Rattle.rules.specs.Records.{records}
+use Rattle.rules.specs.Board.{in-range, pending-of, pending-most, confirmed-size, confirmed-most}
+use Rattle.mem.specs.Le.{le-at}
+use Rattle.format.specs.Parts.{bad}
+use Rattle.format.specs.File.{Version, version-told}
+use Rattle.parse.specs.Places.{has-table}
+use Rattle.parse.specs.Says.{tables-say}
+use Rattle.parse.specs.declared.tables.Sizes.{Sizes}
+use Rattle.parse.proofs.Listed.{told-read, end-room, records-room, no-first, out-of-range, no-second, extra, both-said}
+use borrow.Author.Needs.{needs}
+use Rattle.parse.proofs.tables.read_tables.Statement.{statement}
+use Rattle.parse.proofs.tables.read_tables.Tie as tie
+
+unreadable-says : (v : Version) (r : Sizes) (s : List ℕ) (at : ℕ) → r .ok ≡ false → tables-say v r s at ≡ bad corrupt
+unfolding tables-say
+unreadable-says v r s at h = rw h
+
+-- the first table is there, and how many records it has
+first : (f : tie.Else1) → has-table (f .before .before .record-size .result) pending-most (f .before .before .before .before .args .s .now) (f .before .before .before .before .args .at) ≡ true
+first f = sym (f .before .listed .ensures .0) ∙ not-false _ (f .if1 .left)
+
+count : (f : tie.Else1) → f .before .listed .result .count ≡ le-at 4 (f .before .before .before .before .args .s .now) (f .before .before .before .before .args .at)
+count f = f .before .listed .ensures .1 (not-false _ (f .if1 .left))
+
+ends : (f : tie.Else1) → f .before .before .before .before .args .at + 4 + f .before .listed .result .count * f .before .before .record-size .result ≤ length (f .before .before .before .before .args .s .now)
+ends f = end-room (f .before .before .record-size .result) pending-most (f .before .before .before .before .args .s .now) (f .before .before .before .before .args .at) (first f) _ (count f)
+
+-- whether its records are in range
+ranged : (r : tie.After-in-range) → r .in-range .result ≡ every in-range (map pending-of (records (r .before .before .before .before .record-size .result) (r .before .before .before .listed .result .count) (drop (r .before .before .before .before .before .before .args .at + 4) (r .before .before .before .before .before .before .args .s .now))))
+ranged r =
+    r .in-range .ensures ∙ ap (λ (xs : List ℕ). every in-range (map pending-of (records (r .before .before .before .before .record-size .result) (r .before .before .before .listed .result .count) xs))) (r .before .rest .ensures)
+
+-- the second table is there, and how many records it has
+abbrev next : tie.Else3 → ℕ
+next g = g .before .before .before .before .before .before .before .before .before .args .at + 4 + g .before .before .before .before .before .before .listed .result .count * g .before .before .before .before .before .before .before .record-size .result
+
+second : (g : tie.Else3) → has-table confirmed-size confirmed-most (g .before .before .before .before .before .before .before .before .before .args .s .now) (next g) ≡ true
+second g = sym (g .before .listed2 .ensures .0) ∙ not-false _ (g .if3 .left)
+
+count-2 : (g : tie.Else3) → g .before .listed2 .result .count ≡ le-at 4 (g .before .before .before .before .before .before .before .before .before .args .s .now) (next g)
+count-2 g = g .before .listed2 .ensures .1 (not-false _ (g .if3 .left))
+
+ends-2 : (g : tie.Else3) → next g + 4 + g .before .listed2 .result .count * confirmed-size ≤ length (g .before .before .before .before .before .before .before .before .before .args .s .now)
+ends-2 g = end-room confirmed-size confirmed-most (g .before .before .before .before .before .before .before .before .before .args .s .now) (next g) (second g) _ (count-2 g)
+
+record-size-requires : tie.Need-record-size-requires
+record-size-requires c κs = search needs
+
+listed-requires : tie.Need-listed-requires
+listed-requires c κs = search needs
+
+unreadable-requires : tie.Need-unreadable-requires
+unreadable-requires c κs = search needs
+
+returns : tie.Need-returns
+returns c =
+    let z = c .before .before .before .record-size in
+    let a = c .before .before .before .before .before .args in
+    unreadable-says _ _ (a .s .now) (a .at) (c .unreadable .ensures)
+    ∙ sym (no-first _ (z .result) pending-of (z .ensures .0) (told-read (a .version)) (a .s .now) (a .at) (omega arith) (sym (c .before .before .listed .ensures .0) ∙ not-true _ (c .before .if1 .taken)))
+
+add-rest : tie.Need-add-rest
+add-rest c = search needs
+
+rest-requires : tie.Need-rest-requires
+rest-requires c κs = search needs
+
+in-range-requires : tie.Need-in-range-requires
+in-range-requires c κs =
+    let z = c .before .before .before .record-size in
+    let a = c .before .before .before .before .before .args in
+    (z .ensures .1 .0, records-room (z .result) pending-most (a .s .now) (a .at) (first (c .before)) _ (count (c .before)) _ (c .rest .ensures))
+
+unreadable-requires-2 : tie.Need-unreadable-requires-2
+unreadable-requires-2 c κs = search needs
+
+returns-2 : tie.Need-returns-2
+returns-2 c =
+    let z = c .before .before .before .before .before .before .record-size in
+    let a = c .before .before .before .before .before .before .before .before .args in
+    unreadable-says _ _ (a .s .now) (a .at) (c .unreadable2 .ensures)
+    ∙ sym (out-of-range _ (z .result) pending-of (z .ensures .0) (told-read (a .version)) (a .s .now) (a .at) (first (c .before .before .before .before)) _ (count (c .before .before .before .before)) (sym (ranged (c .before .before)) ∙ not-true _ (c .before .if2 .taken)))
+
+add-next : tie.Need-add-next
+add-next c = search needs
+
+mul-next : tie.Need-mul-next
+mul-next c = omega (arith, ends (c .before .before .before))
+
+add-next-2 : tie.Need-add-next-2
+add-next-2 c = omega (arith, ends (c .before .before .before))
+
+listed-requires-2 : tie.Need-listed-requires-2
+listed-requires-2 c κs = omega (arith, ends (c .before .before .before))
+
+unreadable-requires-3 : tie.Need-unreadable-requires-3
+unreadable-requires-3 c κs = search needs
+
+returns-3 : tie.Need-returns-3
+returns-3 c =
+    let z = c .before .before .before .before .before .before .before .before .record-size in
+    let a = c .before .before .before .before .before .before .before .before .before .before .args in
+    unreadable-says _ _ (a .s .now) (a .at) (c .unreadable3 .ensures)
+    ∙ sym (no-second _ (z .result) pending-of (z .ensures .0) (told-read (a .version)) (a .s .now) (a .at) (first (c .before .before .before .before .before .before)) _ (count (c .before .before .before .before .before .before)) (sym (ranged (c .before .before .before .before)) ∙ not-false _ (c .before .before .before .if2 .left)) _ refl (ends (c .before .before .before .before .before .before)) (sym (c .before .before .listed2 .ensures .0) ∙ not-true _ (c .before .if3 .taken)))
+
+add-if4 : tie.Need-add-if4
+add-if4 c = omega (arith, ends-2 c)
+
+mul-if4 : tie.Need-mul-if4
+mul-if4 c = omega (arith, ends-2 c)
+
+add-if4-2 : tie.Need-add-if4-2
+add-if4-2 c = omega (arith, ends-2 c)
+
+unreadable-requires-4 : tie.Need-unreadable-requires-4
+unreadable-requires-4 c κs = search needs
+
+returns-4 : tie.Need-returns-4
+returns-4 c =
+    let z = c .before .before .before .before .before .before .before .before .before .record-size in
+    let a = c .before .before .before .before .before .before .before .before .before .before .before .args in
+    unreadable-says _ _ (a .s .now) (a .at) (c .unreadable4 .ensures)
+    ∙ sym (extra _ (z .result) pending-of (z .ensures .0) (told-read (a .version)) (a .s .now) (a .at) (first (c .before .before .before .before .before .before .before)) _ (count (c .before .before .before .before .before .before .before)) (sym (ranged (c .before .before .before .before .before)) ∙ not-false _ (c .before .before .before .before .if2 .left)) _ refl (second (c .before .before)) _ (count-2 (c .before .before)) (omega (arith, c .before .if4 .taken)))
+
+returns-5 : tie.Need-returns-5
+unfolding tables-say
+returns-5 c =
+    let z = c .before .before .before .before .before .before .before .before .record-size in
+    let a = c .before .before .before .before .before .before .before .before .before .before .args in
+    sym (both-said _ (z .result) pending-of (z .ensures .0) (told-read (a .version)) (a .s .now) (a .at) (first (c .before .before .before .before .before .before)) _ (count (c .before .before .before .before .before .before)) (sym (ranged (c .before .before .before .before)) ∙ not-false _ (c .before .before .before .if2 .left)) _ refl (second (c .before)) _ (count-2 (c .before)) (omega (arith, c .if4 .left)))
+
+pub read-tables-spec : {M : Type 1} → statement M
+read-tables-spec =
+    tie.close
+    (tie.spec
+    record-size-requires
+    listed-requires
+    unreadable-requires
+    returns
+    add-rest
+    rest-requires
+    in-range-requires
+    unreadable-requires-2
+    returns-2
+    add-next
+    mul-next
+    add-next-2
+    listed-requires-2
+    unreadable-requires-3
+    returns-3
+    add-if4
+    mul-if4
+    add-if4-2
+    unreadable-requires-4
+    returns-4
+    returns-5)

@@ -1,0 +1,170 @@
+// The header: magic, version and what stands after it, last height, bucket count.
+use crate::version::after_len;
+use crate::version::number_of;
+use codec::numbers::put_u8;
+use codec::numbers::put_u64;
+use codec::numbers::u64_le;
+use kinds::BUCKET_COUNT;
+use kinds::FileVersion;
+use kinds::Height;
+use kinds::Last;
+use kinds::WIDE_WIDTH;
+ghost use mathlib.Core.Path.{_≡_};
+ghost use mathlib.Core.List.{_++_};
+ghost use Prim.Native.Nat.{_+_, _≤_};
+ghost use lib.ListN.{length, drop};
+ghost use lib.Seq.{sets};
+ghost use Rattle.rules.specs.Ladder.{buckets};
+ghost use Rattle.rules.specs.Bytes.{bytes};
+ghost use Rattle.format.specs.Parts.{begun, is-read};
+ghost use Rattle.format.specs.File.{version-told, last-bytes, head-bytes, height-length, read-bucket-count, with-bucket-count, read-start, read-after, read-head};
+ghost use Rattle.parse.specs.Says.{header-says, head-size};
+
+// BRSEFEES as a number of eight bytes, the first of them lowest.
+const MAGIC: u64 = 0x5345454645535242;
+
+// What the header says, or why it is refused.
+pub enum Header {
+    BadMagic,
+    UnknownVersion(u32),
+    Corrupt,
+    Good(Last),
+}
+
+// Whether the bucket count stands at `at`.
+fn counted(s: &[u8], at: usize) -> bool
+    requires { ⌜ at ≤ length (now s) ⌝ }
+    ensures { λ r. ⌜ r ≡ is-read (read-bucket-count (drop at (now (s .entry)))) ⌝ }
+{
+    if s.len() - at < 4 {
+        return false;
+    }
+    mem::u32_le(s, at) == BUCKET_COUNT as u32
+}
+
+// The header's end, after the last height.
+fn ends(s: &[u8], at: usize, last: Last) -> Header
+    requires { ⌜ at ≤ length (now s) ⌝ }
+    ensures { λ r. ⌜ header-says r ≡ begun (with-bucket-count last (drop at (now (s .entry)))) ⌝ }
+{
+    if counted(s, at) {
+        return Header::Good(last);
+    }
+    Header::Corrupt
+}
+
+// Whether the bytes of the version stand directly after its number.
+fn followed(s: &[u8], version: FileVersion) -> bool
+    requires { ⌜ 12 ≤ length (now s) ⌝ }
+    ensures { λ r. ⌜ r ≡ is-read (read-after (version-told version) (drop 12 (now (s .entry)))) ⌝ }
+{
+    match version {
+        FileVersion::One => true,
+        FileVersion::Three => {
+            if s.len() < 16 {
+                return false;
+            }
+            mem::u32_le(s, 12) == WIDE_WIDTH
+        }
+    }
+}
+
+// The last height and the bucket count, from `at` on.
+fn starts(s: &[u8], at: usize) -> Header
+    requires { ⌜ at ≤ length (now s) ⌝ }
+    ensures { λ r. ⌜ header-says r ≡ begun (read-start (drop at (now (s .entry)))) ⌝ }
+{
+    if s.len() - at < 1 {
+        return Header::Corrupt;
+    }
+    let flag = s[at];
+    if flag == 0 {
+        return ends(s, at + 1, Last::Nothing);
+    }
+    if flag != 1 {
+        return Header::Corrupt;
+    }
+    if s.len() - at < 5 {
+        return Header::Corrupt;
+    }
+    let h = mem::u32_le(s, at + 1);
+    ends(s, at + 5, Last::At(Height(h)))
+}
+
+// The header of a history file, up to the buckets.
+pub fn read_header(s: &[u8], version: FileVersion) -> Header
+    ensures { λ r. ⌜ header-says r ≡ begun (read-head (version-told version) (now (s .entry))) ⌝ }
+{
+    if s.len() < 8 {
+        return Header::Corrupt;
+    }
+    let m = u64_le(s, 0);
+    if m != MAGIC {
+        return Header::BadMagic;
+    }
+    if s.len() < 12 {
+        return Header::Corrupt;
+    }
+    let v = mem::u32_le(s, 8);
+    if v != number_of(version) {
+        return Header::UnknownVersion(v);
+    }
+    if followed(s, version) {
+        return starts(s, 12 + after_len(version));
+    }
+    Header::Corrupt
+}
+
+// How many bytes a header with this last height has.
+pub fn header_len(last: Last, version: FileVersion) -> usize
+    ensures { λ r. ⌜ r ≡ head-size (version-told version) last ⌝ }
+    ensures { λ r. ⌜ r ≤ 25 ⌝ }
+{
+    let n = after_len(version);
+    match last {
+        Last::Nothing => 17 + n,
+        Last::At(_) => 21 + n,
+    }
+}
+
+// What stands directly after the version number is put into out.
+fn put_after(out: &mut [u8], version: FileVersion)
+    requires { ⌜ 16 ≤ length (now out) ⌝ }
+    ensures { λ _. ⌜ now (out .exit) ≡ sets (now (out .entry)) 12 (version-told version .after) ⌝ }
+{
+    match version {
+        FileVersion::One => {}
+        FileVersion::Three => {
+            mem::put_u32(out, 12, WIDE_WIDTH);
+        }
+    }
+}
+
+// The last height and the bucket count are put into out from `at` on.
+fn put_last(out: &mut [u8], at: usize, last: Last)
+    requires { ⌜ at + 5 + height-length last ≤ length (now out) ⌝ }
+    ensures { λ _. ⌜ now (out .exit) ≡ sets (now (out .entry)) at (last-bytes last ++ bytes 4 buckets) ⌝ }
+{
+    match last {
+        Last::Nothing => {
+            put_u8(out, at, 0);
+            mem::put_u32(out, at + 1, BUCKET_COUNT as u32);
+        }
+        Last::At(h) => {
+            put_u8(out, at, 1);
+            mem::put_u32(out, at + 1, h.0);
+            mem::put_u32(out, at + 5, BUCKET_COUNT as u32);
+        }
+    }
+}
+
+// The header is put first into out.
+pub fn put_header(out: &mut [u8], last: Last, version: FileVersion)
+    requires { ⌜ head-size (version-told version) last ≤ length (now out) ⌝ }
+    ensures { λ _. ⌜ now (out .exit) ≡ sets (now (out .entry)) 0 (head-bytes (version-told version) last) ⌝ }
+{
+    put_u64(out, 0, MAGIC);
+    mem::put_u32(out, 8, number_of(version));
+    put_after(out, version);
+    put_last(out, 12 + after_len(version), last);
+}
