@@ -1,0 +1,1 @@
+// No code: each contract over the board, at the wide board.
