@@ -1,5 +1,4 @@
--- What an edit of a sound table, or a pass over it, leaves. Whatever was done, the slice still holds bytes, so its records are those of their bytes.
--- Assumes nothing.
+-- What an edit of a sound table, or a pass over it, leaves. Whatever was done, the slice still holds bytes, so its records are those of their bytes. Assumes nothing.
 use mathlib.Core.Path.{_≡_, refl, sym, ap, _∙_}
 use mathlib.Core.Bool.{true}
 use mathlib.Core.List.{List, [], _∷_, map}
