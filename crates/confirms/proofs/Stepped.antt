@@ -38,13 +38,13 @@ pub room-for-it : (n m : ℕ) (t : Bool) → true ≡ t → n + bit t ≤ m → 
 room-for-it n m t e h = let k : n + 1 ≤ m = rw (sym e) at h in omega arith
 
 module _ (k : Board) (law : Lawful k) (s : State) (l : Lent) (r : Ready k s l) (B : ℕ) (i : Id) where
-  -- it is not pending
+  -- an id that is not pending changes nothing
   pub unlisted : find i (pending-records k (s .pending) (l .pending)) ≡ none
       → outcome done s l ≡ accepted k (record-confirmation k B i (find i (pending-records k (s .pending) (l .pending))) (view k s l)) l
   unfolding record-confirmation
   unlisted e = rw e (step-none k law s l r)
 
-  -- its confirmed record holds exactly B: it goes uncounted
+  -- an id whose confirmed record holds exactly B goes uncounted
   pub uncounted : holds i B (confirmed-records (s .recent) (l .recent)) ≡ true → (n : ℕ) (p : List ℕ)
       → n ≡ length (without i (pending-records k (s .pending) (l .pending))) → p ≡ lay-pending k (without i (pending-records k (s .pending) (l .pending))) (l .pending)
       → outcome done (record { last = s .last; pending = n; recent = s .recent }) (lent (l .confirmed) (l .resolved) p (l .recent)) ≡ accepted k (confirm k B i (view k s l)) l
@@ -56,19 +56,19 @@ module _ (k : Board) (law : Lawful k) (s : State) (l : Lent) (r : Ready k s l) (
       let t = ap (λ (m : Lent). m .recent) (r .own) in
       rw e (cc)
 
-  -- it does not: it is counted if it is pending
+  -- an id whose confirmed record does not hold B is counted if it is pending
   pub not-uncounted : holds i B (confirmed-records (s .recent) (l .recent)) ≡ false → {o : Outcome Lent}
       → o ≡ accepted k (record-confirmation k B i (find i (pending-records k (s .pending) (l .pending))) (view k s l)) l → o ≡ accepted k (confirm k B i (view k s l)) l
   unfolding confirm view
   not-uncounted e q = rw e q
 
   module _ (q : Pending) (e : find i (pending-records k (s .pending) (l .pending)) ≡ some q) where
-    -- its bucket is one of the 142
+    -- the bucket of a pending record is one of the 142
     pub bucket-fits : q .bucket ≤ 141
     unfolding view
     bucket-fits = of-found i (r .well .pending) q e .bucket
 
-    -- it is pending: it goes, its confirmed height becomes B, and it is counted
+    -- an id that is pending goes, its confirmed height becomes B, and it is counted
     pub counted : (n m b x u : ℕ) (c d : List Float) (p t : List ℕ) → b ≡ q .bucket → x ≡ q .entry → u ≡ q .through
         → c ≡ gain b (λ c. leb (wait B x) (k .width * c)) (l .confirmed) → d ≡ gain b (λ c. ltb u c) (l .resolved)
         → (n ≡ length (without i (pending-records k (s .pending) (l .pending)))) × (p ≡ lay-pending k (without i (pending-records k (s .pending) (l .pending))) (l .pending))

@@ -1,5 +1,4 @@
--- The loop that changes one record after the other.
--- Assumes nothing.
+-- The loop that changes one record after the other. Assumes nothing.
 use mathlib.Core.Path.{_≡_, ap, _∙_}
 use mathlib.Core.Bool.{Bool}
 use mathlib.Core.List.{List, [], map}

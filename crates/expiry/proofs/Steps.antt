@@ -1,5 +1,4 @@
--- What the passes do to pending and confirmed records: the rules' steps.
--- Assumes nothing.
+-- What the passes do to pending and confirmed records: the rules' steps. Assumes nothing.
 use mathlib.Core.Path.{_≡_, refl, ap, _∙_}
 use mathlib.Core.Bool.{Bool, true, false, cond}
 use mathlib.Core.List.{List, [], _∷_, map}

@@ -1,1 +1,2 @@
+-- `Fields`: tests and changes of the fields of a record.
 pub mod Fields

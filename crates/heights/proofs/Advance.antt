@@ -1,5 +1,4 @@
--- What an advance of ready memory leaves is the advanced estimator, laid: counts and tables each by their own law.
--- Assumes nothing.
+-- What an advance of ready memory leaves is the advanced estimator, laid: counts and tables each by their own law. Assumes nothing.
 use mathlib.Core.Path.{_≡_, sym, subst, _∙_}
 use mathlib.Core.List.{List, _++_, map}
 use Prim.Native.Nat.{ℕ, _-_, _*_, _≤_}

@@ -39,7 +39,7 @@ searchable n m most used xs i q h s e =
     let g = sound-told n most used xs (ap (λ (x : ℕ). sound-table x most used xs) q ∙ s) in
     ((h, sound-room n most used xs g), (g .rise, e))
 
--- what it has told
+-- what a search over the code's size has told of the rules'
 pub told : (n m used : ℕ) (xs : List ℕ) (i : Id) {r o : Found} → n ≡ m → r ≡ find-in i (map id-of (records n used xs)) → r ≡ o → find-in i (map id-of (records m used xs)) ≡ o
 told n m used xs i q f e = ap (λ (x : ℕ). find-in i (map id-of (records x used xs))) (sym q) ∙ sym f ∙ e
 
@@ -89,7 +89,7 @@ module _ (k : Board) (law : Lawful k) (i : Id) (used n : ℕ) (xs : List ℕ) (s
       (sized-remove (k .table .size) n rs (sized-records (k .table .size) used xs (sound-room (k .table .size) pending-most used xs g)))
       (pending-without (k .table .read) (law .named) i n rs (g .rise) f) (sym fewer) (r ∙ ap (λ (x : ℕ). laid x used (remove-at n (records x used xs)) xs) q)
 
-  -- there is none
+  -- where there is no record of i, none goes
   pub unmoved : T (areBytes xs) → find-in i (map id-of (records (k .table .size) used xs)) ≡ Gap n
       → (used ≡ length (without i (pending-records k used xs))) × (xs ≡ lay-pending k (without i (pending-records k used xs)) xs)
   unfolding pending-records lay-pending is-pending

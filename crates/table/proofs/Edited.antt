@@ -1,5 +1,4 @@
--- What an edit of a sound table, or a pass over it, leaves. Whatever was done, the slice still holds bytes, so its records are those of their bytes.
--- Assumes nothing.
+-- What an edit of a sound table, or a pass over it, leaves. Whatever was done, the slice still holds bytes, so its records are those of their bytes. Assumes nothing.
 use mathlib.Core.Path.{_≡_, refl, sym, ap, _∙_}
 use mathlib.Core.Bool.{true}
 use mathlib.Core.List.{List, [], _∷_, map}
@@ -23,7 +22,7 @@ are-bytes [] h = tt
 are-bytes (x ∷ xs) h = and-i (ltb x 256) (areBytes xs) (lt→ltb x 256 (h 0)) (are-bytes xs (λ i. h (suc i)))
 
 module _ {A : Type 0} {size : ℕ} {to : A → List ℕ} {from : List ℕ → A} {Fits : A → Type 0} (k : Kept A size to from Fits) where
-  -- the records bs in n places, which hold qs
+  -- the bytes that the records bs leave in n places, where bs stand for qs
   pub edited : (most used n : ℕ) (bs : List (List ℕ)) (qs : List A) (xs ys : List ℕ) → sound-table size most used xs ≡ true → T (areBytes ys)
       → used ≤ n → n ≤ capacity size most xs → length bs ≤ n → Sized size bs → map from bs ≡ qs → ys ≡ laid size n bs xs
       → ys ≡ laid size (capacity size most xs) (map to qs) xs
@@ -34,7 +33,7 @@ module _ {A : Type 0} {size : ℕ} {to : A → List ℕ} {from : List ℕ → A}
       let again : map to (map from bs) ≡ bs = ap (λ (r : List (List ℕ)). map to (map from r)) (sym there) ∙ forth-records k (length bs) ys (omega (arith, mul-le-mul-right size h)) b ∙ there in
       q ∙ laid-up size most used n bs xs (sound-told size most used xs s) h u l ∙ ap (λ (r : List (List ℕ)). laid size (capacity size most xs) r xs) (sym again ∙ ap (map to) e)
 
-  -- n is how many they are
+  -- how many the records bs in these places are, and the bytes that they leave
   pub passed : (most used places n : ℕ) (bs : List (List ℕ)) (qs : List A) (xs ys : List ℕ) → sound-table size most used xs ≡ true → T (areBytes ys)
       → used ≤ places → places ≤ capacity size most xs → length bs ≤ places → Sized size bs → map from bs ≡ qs → n ≡ length bs → ys ≡ laid size places bs xs
       → (n ≡ length qs) × (ys ≡ laid size (capacity size most xs) (map to qs) xs)

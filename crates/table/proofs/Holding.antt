@@ -1,5 +1,4 @@
--- A table whose used places hold certain records, while a loop changes them: what stands behind them is as it was at the start.
--- Assumes nothing.
+-- A table whose used places hold certain records, while a loop changes them: what stands behind them is as it was at the start. Assumes nothing.
 use mathlib.Core.Path.{_≡_, sym, ap, _∙_}
 use mathlib.Core.List.{List}
 use Prim.Native.Nat.{ℕ, _*_, _≤_}

@@ -79,21 +79,4 @@ returns c = let on = c .before .before .before .before .before .before .before .
 
 pub confirm-all-spec : {M : Type 1} → statement M
 confirm-all-spec =
-    tie.close
-    (tie.spec
-    Inv-loop
-    μ-loop
-    loop-holds
-    sub-loop
-    add-end
-    sub-confirm
-    part-confirm-start
-    part-confirm-end
-    confirm-requires
-    loop-less
-    loop-again
-    same-length
-    same-length-2
-    same-length-3
-    same-length-4
-    returns)
+    tie.close (tie.spec Inv-loop μ-loop loop-holds sub-loop add-end sub-confirm part-confirm-start part-confirm-end confirm-requires loop-less loop-again same-length same-length-2 same-length-3 same-length-4 returns)

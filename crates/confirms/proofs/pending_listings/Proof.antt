@@ -65,20 +65,4 @@ returns c = counting-all _ _ _ (c .before .loop .at) (c .before .loop .inv) (ome
 
 pub pending-listings-spec : {M : Type 1} → statement M
 pending-listings-spec =
-    tie.close
-    (tie.spec
-    Inv-loop
-    μ-loop
-    loop-holds
-    sub-loop
-    add-end
-    sub-is-pending
-    part-is-pending-start
-    part-is-pending-end
-    is-pending-requires
-    add-n
-    loop-less
-    loop-again
-    loop-less-2
-    loop-again-2
-    returns)
+    tie.close (tie.spec Inv-loop μ-loop loop-holds sub-loop add-end sub-is-pending part-is-pending-start part-is-pending-end is-pending-requires add-n loop-less loop-again loop-less-2 loop-again-2 returns)

@@ -1,5 +1,4 @@
--- `expiry::expire_one` meets its contract: what the record's fields and its wait give is one step of the rules' expiry.
--- Assumes nothing.
+-- `expiry::expire_one` meets its contract: what the record's fields and its wait give is one step of the rules' expiry. Assumes nothing.
 use mathlib.Core.Path.{_≡_, sym, ap, ap₂, subst, _∙_}
 use mathlib.Core.List.{[]}
 use Prim.Native.Nat.{ℕ, _-_, _*_, _/_, min, _≤_}
@@ -67,13 +66,4 @@ returns c =
 
 pub expire-one-spec : {M : Type 1} → statement M
 expire-one-spec =
-    tie.close
-    (tie.spec
-    record-size-requires
-    width-of-requires
-    pending-at-requires
-    outwaited-requires
-    cast-count-expiry
-    count-expiry-requires
-    same-length
-    returns)
+    tie.close (tie.spec record-size-requires width-of-requires pending-at-requires outwaited-requires cast-count-expiry count-expiry-requires same-length returns)

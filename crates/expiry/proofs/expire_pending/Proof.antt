@@ -1,6 +1,5 @@
--- `expiry::expire_pending` meets its contract: what is raised and then dropped is one pass over the records as they were.
--- Assumes nothing.
-use mathlib.Core.Path.{_≡_, sym, ap₂, subst, _∙_}
+-- `expiry::expire_pending` meets its contract: what is raised and then dropped is one pass over the records as they were. Assumes nothing.
+use mathlib.Core.Path.{sym, ap₂, subst, _∙_}
 use mathlib.Core.List.{List, map}
 use Prim.Native.Nat.{ℕ, _*_, _≤_}
 use native.Mathlib.Omega.{arith}
@@ -60,13 +59,4 @@ returns c =
 
 pub expire-pending-spec : {M : Type 1} → statement M
 expire-pending-spec =
-    tie.close
-    (tie.spec
-    record-size-requires
-    width-of-requires
-    expire-targets-requires
-    raise-through-requires
-    drop-resolved-requires
-    same-length
-    same-length-2
-    returns)
+    tie.close (tie.spec record-size-requires width-of-requires expire-targets-requires raise-through-requires drop-resolved-requires same-length same-length-2 returns)

@@ -1,5 +1,4 @@
--- `expiry::expire_targets` meets its contract. The invariant: what is left to expire, from here, gives what the whole gives.
--- Assumes nothing.
+-- `expiry::expire_targets` meets its contract. The invariant: what is left to expire, from here, gives what the whole gives. Assumes nothing.
 use Prim.Native.Nat.{_-_, _<_}
 use native.Mathlib.Omega.{arith}
 use denote.Ref.{now}
@@ -43,15 +42,4 @@ returns : tie.Need-returns Inv-loop μ-loop
 returns c = stop _ _ _ _ (c .before .loop .inv) (c .loop-test .left)
 
 pub expire-targets-spec : {M : Type 1} → statement M
-expire-targets-spec =
-    tie.close
-    (tie.spec
-    Inv-loop
-    μ-loop
-    loop-holds
-    expire-one-requires
-    add-i
-    loop-less
-    loop-again
-    same-length
-    returns)
+expire-targets-spec = tie.close (tie.spec Inv-loop μ-loop loop-holds expire-one-requires add-i loop-less loop-again same-length returns)

@@ -1,5 +1,4 @@
--- `heights::advance_height` meets its contract: the three calls leave what the law `advanced` asks for.
--- Assumes nothing.
+-- `heights::advance_height` meets its contract: the three calls leave what the law `advanced` asks for. Assumes nothing.
 use borrow.Author.Needs.{needs}
 use native.Mathlib.Omega.{arith}
 use denote.Ref.{now}
@@ -63,14 +62,4 @@ returns c =
 
 pub advance-height-spec : {M : Type 1} → statement M
 advance-height-spec =
-    tie.close
-    (tie.spec
-    expire-pending-requires
-    factor-of-requires
-    apply-decay-requires
-    prune-confirmed-requires
-    same-length
-    same-length-2
-    same-length-3
-    same-length-4
-    returns)
+    tie.close (tie.spec expire-pending-requires factor-of-requires apply-decay-requires prune-confirmed-requires same-length same-length-2 same-length-3 same-length-4 returns)

@@ -1,5 +1,4 @@
--- `heights::advance_heights` meets its contract. The invariant: memory holds the estimator after the heights passed.
--- Assumes nothing.
+-- `heights::advance_heights` meets its contract. The invariant: memory holds the estimator after the heights passed. Assumes nothing.
 use Prim.Native.Nat.{_-_}
 use native.Mathlib.Omega.{arith}
 use denote.Ref.{now}
@@ -68,18 +67,4 @@ returns c =
 
 pub advance-heights-spec : {M : Type 1} → statement M
 advance-heights-spec =
-    tie.close
-    (tie.spec
-    Inv-loop
-    μ-loop
-    loop-holds
-    add-i
-    add-next
-    advance-height-requires
-    loop-less
-    loop-again
-    same-length
-    same-length-2
-    same-length-3
-    same-length-4
-    returns)
+    tie.close (tie.spec Inv-loop μ-loop loop-holds add-i add-next advance-height-requires loop-less loop-again same-length same-length-2 same-length-3 same-length-4 returns)

@@ -1,5 +1,4 @@
--- `heights::skip_heights` meets its contract: with no last height, or none below h, nothing is done; else the heights between are advanced.
--- Assumes nothing.
+-- `heights::skip_heights` meets its contract: with no last height, or none below h, nothing is done; else the heights between are advanced. Assumes nothing.
 use borrow.Author.Needs.{needs}
 use native.Mathlib.Omega.{arith}
 use denote.Ref.{now}
@@ -61,17 +60,4 @@ returns-3 c =
 
 pub skip-heights-spec : {M : Type 1} → statement M
 skip-heights-spec =
-    tie.close
-    (tie.spec
-    enum-known-last
-    enum-told
-    returns
-    returns-2
-    sub-between
-    sub-between-2
-    advance-heights-requires
-    same-length
-    same-length-2
-    same-length-3
-    same-length-4
-    returns-3)
+    tie.close (tie.spec enum-known-last enum-told returns returns-2 sub-between sub-between-2 advance-heights-requires same-length same-length-2 same-length-3 same-length-4 returns-3)

@@ -54,13 +54,4 @@ returns-4 c =
 
 pub judge-memory-spec : {M : Type 1} → statement M
 judge-memory-spec =
-    tie.close
-    (tie.spec
-    sound-counts-requires
-    returns
-    sound-counts-requires-2
-    returns-2
-    judge-pending-requires
-    returns-3
-    judge-confirmed-requires
-    returns-4)
+    tie.close (tie.spec sound-counts-requires returns sound-counts-requires-2 returns-2 judge-pending-requires returns-3 judge-confirmed-requires returns-4)

@@ -32,5 +32,4 @@ returns c =
     c .before .before .zero .ensures ∙ rw (c .before .before .before .before .capacity .ensures) (none-laid (a .size) (capacity (a .size) (a .most) (now (a .table))) (now (a .table)))
 
 pub clear-table-spec : {M : Type 1} → statement M
-clear-table-spec =
-    tie.close (tie.spec capacity-requires mul-zero zero-requires same-length returns)
+clear-table-spec = tie.close (tie.spec capacity-requires mul-zero zero-requires same-length returns)

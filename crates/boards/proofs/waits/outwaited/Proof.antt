@@ -1,5 +1,4 @@
--- `boards::waits::outwaited` meets its contract.
--- Assumes nothing.
+-- `boards::waits::outwaited` meets its contract. Assumes nothing.
 use mathlib.Core.Path.{_≡_, refl, sym}
 use Prim.Native.Nat.{_-_}
 use native.Mathlib.Omega.{arith}

@@ -48,16 +48,4 @@ returns-2 c =
 
 pub confirm-spec : {M : Type 1} → statement M
 confirm-spec =
-    tie.close
-    (tie.spec
-    holds-requires
-    forget-requires
-    same-length
-    same-length-2
-    returns
-    record-confirmation-requires
-    same-length-3
-    same-length-4
-    same-length-5
-    same-length-6
-    returns-2)
+    tie.close (tie.spec holds-requires forget-requires same-length same-length-2 returns record-confirmation-requires same-length-3 same-length-4 same-length-5 same-length-6 returns-2)

@@ -39,13 +39,4 @@ returns c =
 
 pub count-spec : {M : Type 1} → statement M
 count-spec =
-    tie.close
-    (tie.spec
-    waited-requires
-    width-of-requires
-    first-column-requires
-    cast-count-confirmation
-    count-confirmation-requires
-    same-length
-    same-length-2
-    returns)
+    tie.close (tie.spec waited-requires width-of-requires first-column-requires cast-count-confirmation count-confirmation-requires same-length same-length-2 returns)

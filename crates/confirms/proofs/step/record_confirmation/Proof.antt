@@ -131,21 +131,4 @@ returns-2 c =
 
 pub record-confirmation-spec : {M : Type 1} → statement M
 record-confirmation-spec =
-    tie.close
-    (tie.spec
-    record-size-requires
-    find-requires
-    enum-known-i
-    pending-at-requires
-    count-requires
-    remove-requires
-    sub-left
-    note-height-requires
-    enum-told
-    same-length
-    same-length-2
-    same-length-3
-    same-length-4
-    returns
-    same-length-5
-    returns-2)
+    tie.close (tie.spec record-size-requires find-requires enum-known-i pending-at-requires count-requires remove-requires sub-left note-height-requires enum-told same-length same-length-2 same-length-3 same-length-4 returns same-length-5 returns-2)

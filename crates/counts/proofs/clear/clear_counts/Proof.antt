@@ -1,5 +1,4 @@
--- `counts::clear::clear_counts` meets its contract. The invariant: the counts up to `i` are +0.0, and the others are as they were.
--- Assumes nothing.
+-- `counts::clear::clear_counts` meets its contract. The invariant: the counts up to `i` are +0.0, and the others are as they were. Assumes nothing.
 use mathlib.Core.Path.{_≡_, refl, _∙_}
 use Prim.Native.Nat.{_-_}
 use native.Mathlib.Omega.{arith}
@@ -49,16 +48,4 @@ returns c =
     stop g (omega arith) ∙ filled nought places-of-counts (now (c .before .before .args .counts)) (g .fits)
 
 pub clear-counts-spec : {M : Type 1} → statement M
-clear-counts-spec =
-    tie.close
-    (tie.spec
-    Inv-loop
-    μ-loop
-    loop-holds
-    mul-counts
-    slice-write-counts
-    add-i
-    loop-less
-    loop-again
-    same-length
-    returns)
+clear-counts-spec = tie.close (tie.spec Inv-loop μ-loop loop-holds mul-counts slice-write-counts add-i loop-less loop-again same-length returns)

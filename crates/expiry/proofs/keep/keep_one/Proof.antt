@@ -1,5 +1,4 @@
--- `expiry::keep::keep_one` meets its contract.
--- Assumes nothing.
+-- `expiry::keep::keep_one` meets its contract. Assumes nothing.
 use Prim.Native.Nat.{_*_, _≤_}
 use native.Mathlib.Omega.{arith}
 use denote.Ref.{now}
@@ -52,16 +51,4 @@ returns-2 c =
 
 pub keep-one-spec : {M : Type 1} → statement M
 keep-one-spec =
-    tie.close
-    (tie.spec
-    passes-requires
-    mul-shift-down
-    mul-shift-down-2
-    mul-shift-down-3
-    sub-shift-down
-    shift-down-requires
-    add-result
-    same-length
-    returns
-    same-length-2
-    returns-2)
+    tie.close (tie.spec passes-requires mul-shift-down mul-shift-down-2 mul-shift-down-3 sub-shift-down shift-down-requires add-result same-length returns same-length-2 returns-2)

@@ -1,5 +1,4 @@
--- `expiry::keep::keep_passing` meets its contract.
--- Assumes nothing.
+-- `expiry::keep::keep_passing` meets its contract. Assumes nothing.
 use mathlib.Core.Path.{_≡_, _∙_}
 use Prim.Native.Nat.{ℕ, _*_, _-_, _≤_}
 use native.Mathlib.Omega.{arith}
@@ -60,18 +59,4 @@ returns c =
     (n .0, c .before .before .zero .ensures ∙ n .1)
 
 pub keep-passing-spec : {M : Type 1} → statement M
-keep-passing-spec =
-    tie.close
-    (tie.spec
-    Inv-loop
-    μ-loop
-    loop-holds
-    keep-one-requires
-    add-i
-    loop-less
-    loop-again
-    mul-zero
-    mul-zero-2
-    zero-requires
-    same-length
-    returns)
+keep-passing-spec = tie.close (tie.spec Inv-loop μ-loop loop-holds keep-one-requires add-i loop-less loop-again mul-zero mul-zero-2 zero-requires same-length returns)

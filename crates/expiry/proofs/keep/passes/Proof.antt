@@ -1,5 +1,4 @@
--- `expiry::keep::passes` meets its contract.
--- Assumes nothing.
+-- `expiry::keep::passes` meets its contract. Assumes nothing.
 use mathlib.Core.Path.{ap, _∙_}
 use Prim.Native.Nat.{_*_}
 use denote.Ref.{now}

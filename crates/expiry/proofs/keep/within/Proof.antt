@@ -1,5 +1,4 @@
--- `expiry::keep::within` meets its contract.
--- Assumes nothing.
+-- `expiry::keep::within` meets its contract. Assumes nothing.
 use mathlib.Core.Path.{sym}
 use Rattle.expiry.specs.Fields.{in-bound}
 use borrow.Author.Needs.{needs}

@@ -63,13 +63,4 @@ returns-2 c =
     ∙ laid-same (s .args .size) (s .args .used) xs (s .pre .1 .1 .1))
 
 pub raise-one-spec : {M : Type 1} → statement M
-raise-one-spec =
-    tie.close
-    (tie.spec
-    pending-at-requires
-    outwaited-requires
-    put-field-requires
-    same-length
-    returns
-    same-length-2
-    returns-2)
+raise-one-spec = tie.close (tie.spec pending-at-requires outwaited-requires put-field-requires same-length returns same-length-2 returns-2)

@@ -1,5 +1,4 @@
--- `expiry::raise::raise_through` meets its contract.
--- Assumes nothing.
+-- `expiry::raise::raise_through` meets its contract. Assumes nothing.
 use mathlib.Core.Path.{_≡_}
 use Prim.Native.Nat.{_-_, _<_}
 use native.Mathlib.Omega.{arith}
@@ -50,15 +49,4 @@ returns c =
     changing-end (raised (s .args .width .0) (s .args .h .0)) (s .args .size) (s .args .used) (now (s .args .table)) (l .loop .table) (rw e at (l .loop .inv))
 
 pub raise-through-spec : {M : Type 1} → statement M
-raise-through-spec =
-    tie.close
-    (tie.spec
-    Inv-loop
-    μ-loop
-    loop-holds
-    raise-one-requires
-    add-i
-    loop-less
-    loop-again
-    same-length
-    returns)
+raise-through-spec = tie.close (tie.spec Inv-loop μ-loop loop-holds raise-one-requires add-i loop-less loop-again same-length returns)

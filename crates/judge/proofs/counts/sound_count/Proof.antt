@@ -1,5 +1,4 @@
--- `judge::counts::sound_count` meets its contract.
--- Assumes nothing.
+-- `judge::counts::sound_count` meets its contract. Assumes nothing.
 use Rattle.floats.proofs.Bits.{zero-is, infinity-is}
 use Rattle.judge.proofs.Soundness.{sound-tests}
 use Rattle.judge.proofs.counts.sound_count.Statement.{statement}

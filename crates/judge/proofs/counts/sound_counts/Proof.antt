@@ -1,5 +1,4 @@
--- `judge::counts::sound_counts` meets its contract.
--- Assumes nothing.
+-- `judge::counts::sound_counts` meets its contract. Assumes nothing.
 use mathlib.Core.Path.{_≡_, refl, sym, _∙_}
 use Prim.Native.Nat.{_-_, _≤_}
 use native.Mathlib.Omega.{arith}
@@ -70,17 +69,4 @@ returns-3 c =
 
 pub sound-counts-spec : {M : Type 1} → statement M
 sound-counts-spec =
-    tie.close
-    (tie.spec
-    Inv-loop
-    μ-loop
-    returns
-    loop-holds
-    mul-sound-count
-    shared-slice-read-sound-count
-    sound-count-requires
-    returns-2
-    add-i
-    loop-less
-    loop-again
-    returns-3)
+    tie.close (tie.spec Inv-loop μ-loop returns loop-holds mul-sound-count shared-slice-read-sound-count sound-count-requires returns-2 add-i loop-less loop-again returns-3)

@@ -60,15 +60,4 @@ returns-2 c =
     sym (every-map pending-of in-range (rs s) ∙ c .before .loop .inv .1 ∙ every-end (λ b. in-range (pending-of b)) (rs s) (c .before .loop .i) (rw length-records (omega arith)))
 
 pub in-range-spec : {M : Type 1} → statement M
-in-range-spec =
-    tie.close
-    (tie.spec
-    Inv-loop
-    μ-loop
-    loop-holds
-    one-in-range-requires
-    returns
-    add-i
-    loop-less
-    loop-again
-    returns-2)
+in-range-spec = tie.close (tie.spec Inv-loop μ-loop loop-holds one-in-range-requires returns add-i loop-less loop-again returns-2)

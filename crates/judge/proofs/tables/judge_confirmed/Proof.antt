@@ -1,5 +1,4 @@
--- `judge::tables::judge_confirmed` meets its contract.
--- Assumes nothing.
+-- `judge::tables::judge_confirmed` meets its contract. Assumes nothing.
 use Rattle.rules.specs.Memory.{sound-confirmed}
 use borrow.Author.Needs.{needs}
 use Rattle.judge.proofs.tables.judge_confirmed.Statement.{statement}

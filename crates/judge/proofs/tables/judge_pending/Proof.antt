@@ -2,9 +2,8 @@
 use mathlib.Core.Path.{_≡_, sym, ap₂, _∙_}
 use mathlib.Core.Bool.{true, _&&_}
 use mathlib.Core.List.{List, map}
-use Prim.Native.Nat.{ℕ, _*_, _≤_}
+use Prim.Native.Nat.{ℕ}
 use denote.Ref.{now}
-use lib.ListN.{length}
 use Rattle.kinds.specs.declared.Horizon.{Horizon}
 use Rattle.rules.specs.Lists.{every}
 use Rattle.rules.specs.Records.{records, sound-table}

@@ -1,5 +1,4 @@
--- `judge::tables::judge_table` meets its contract.
--- Assumes nothing.
+-- `judge::tables::judge_table` meets its contract. Assumes nothing.
 use mathlib.Core.Path.{sym, _∙_}
 use Prim.Native.Nat.{_*_, _≤_, _<_}
 use native.Mathlib.Omega.{arith}
@@ -55,14 +54,4 @@ returns-3 c =
     sym (rw (le-leb _ _ (fits-in e), sym (c .before .ids-rise .ensures) ∙ c .if2 .left))
 
 pub judge-table-spec : {M : Type 1} → statement M
-judge-table-spec =
-    tie.close
-    (tie.spec
-    capacity-requires
-    returns
-    ids-rise-requires
-    mul-zero-between
-    mul-zero-between-2
-    zero-between-requires
-    returns-2
-    returns-3)
+judge-table-spec = tie.close (tie.spec capacity-requires returns ids-rise-requires mul-zero-between mul-zero-between-2 zero-between-requires returns-2 returns-3)

@@ -29,7 +29,7 @@ cast-if1 : tie.Need-cast-if1
 cast-if1 c = search needs
 
 returns : tie.Need-returns
-returns c = let r = c .before .before .pending-at in no-bucket _ (r .result .bucket) (r .result .through) (r .ensures .0) (r .ensures .1 .1) (c .if1 .taken)
+returns c = let r = c .before .before .pending-at in no-bucket _ (r .result .bucket) (r .result .through) (r .ensures .0) (r .ensures .1 .1) (omega (arith, c .if1 .taken))
 
 cast-result : tie.Need-cast-result
 cast-result c = search needs

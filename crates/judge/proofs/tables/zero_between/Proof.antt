@@ -1,5 +1,4 @@
--- `judge::tables::zero_between` meets its contract.
--- Assumes nothing.
+-- `judge::tables::zero_between` meets its contract. Assumes nothing.
 use mathlib.Core.Path.{_≡_, refl, sym, _∙_}
 use Prim.Native.Nat.{_-_, _≤_}
 use native.Mathlib.Omega.{arith}
@@ -48,15 +47,4 @@ returns-2 c =
     sym (l .inv .1 ∙ zero-none (l .i) (s .args .to) (now (s .args .table)) (omega arith))
 
 pub zero-between-spec : {M : Type 1} → statement M
-zero-between-spec =
-    tie.close
-    (tie.spec
-    Inv-loop
-    μ-loop
-    loop-holds
-    shared-slice-read-if1
-    returns
-    add-i
-    loop-less
-    loop-again
-    returns-2)
+zero-between-spec = tie.close (tie.spec Inv-loop μ-loop loop-holds shared-slice-read-if1 returns add-i loop-less loop-again returns-2)

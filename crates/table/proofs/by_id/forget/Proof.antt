@@ -66,16 +66,4 @@ returns-2 c =
     unmoved (board-of (s .args .on)) (board-lawful (s .args .on)) _ _ _ _ (s .pre .0) (are-bytes (now (s .args .pending)) (λ i. c .before .before .before .before .before .before .slice-known .given i .fits)) f
 
 pub forget-spec : {M : Type 1} → statement M
-forget-spec =
-    tie.close
-    (tie.spec
-    record-size-requires
-    find-requires
-    enum-known-i
-    remove-requires
-    sub-result
-    enum-told
-    same-length
-    returns
-    same-length-2
-    returns-2)
+forget-spec = tie.close (tie.spec record-size-requires find-requires enum-known-i remove-requires sub-result enum-told same-length returns same-length-2 returns-2)

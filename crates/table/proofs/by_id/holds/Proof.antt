@@ -32,5 +32,4 @@ returns-2 : tie.Need-returns-2
 returns-2 c = not-held _ _ _ _ (c .before .before .before .before .before .pre .0) _ (sym (c .before .before .find .ensures) ∙ c .enum-told .given .1)
 
 pub holds-spec : {M : Type 1} → statement M
-holds-spec =
-    tie.close (tie.spec find-requires enum-known-i height-at-requires enum-told returns returns-2)
+holds-spec = tie.close (tie.spec find-requires enum-known-i height-at-requires enum-told returns returns-2)

@@ -53,15 +53,4 @@ returns-2 c =
 
 pub note-height-spec : {M : Type 1} → statement M
 note-height-spec =
-    tie.close
-    (tie.spec
-    find-requires
-    enum-known-i
-    put-field-requires
-    enum-known-i-2
-    insert-confirmed-requires
-    add-result
-    same-length
-    returns
-    same-length-2
-    returns-2)
+    tie.close (tie.spec find-requires enum-known-i put-field-requires enum-known-i-2 insert-confirmed-requires add-result same-length returns same-length-2 returns-2)
