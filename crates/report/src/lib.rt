@@ -7,7 +7,7 @@ use kinds::COUNTS;
 use kinds::PENDING_SIZE;
 use kinds::ReadAnswer;
 use kinds::State;
-use lines::put_line;
+use lines::put_refused;
 use lines::put_state;
 use lines::put_targets;
 use lines::put_version;
@@ -48,11 +48,11 @@ fn tell(
             let at = put_state(out, 0, state);
             put_targets(out, at, state, confirmed, resolved)
         }
-        ReadAnswer::Damaged => put_line(out, 0, b"refused ", b"Damaged"),
-        ReadAnswer::BadMagic => put_line(out, 0, b"refused ", b"BadMagic"),
+        ReadAnswer::Damaged => put_refused(out, b"Damaged"),
+        ReadAnswer::BadMagic => put_refused(out, b"BadMagic"),
         ReadAnswer::UnknownVersion(v) => put_version(out, 0, v),
-        ReadAnswer::Corrupt => put_line(out, 0, b"refused ", b"Corrupt"),
-        ReadAnswer::NoRoom => put_line(out, 0, b"refused ", b"NoRoom"),
+        ReadAnswer::Corrupt => put_refused(out, b"Corrupt"),
+        ReadAnswer::NoRoom => put_refused(out, b"NoRoom"),
     }
 }
 
@@ -62,7 +62,7 @@ pub fn report(file: &[u8], out: &mut [u8; PAGE]) -> usize
     ensures { λ r. ⌜ page (now (out .exit)) r ≡ page (sets (now (out .entry)) 0 (shown (now (file .entry)))) (length (shown (now (file .entry)))) ⌝ }
 {
     if LONGEST < file.len() {
-        return put_line(out, 0, b"refused ", b"TooLong");
+        return put_refused(out, b"TooLong");
     }
     let mut confirmed = [0.0f64; COUNTS];
     let mut resolved = [0.0f64; COUNTS];

@@ -13,17 +13,24 @@ ghost use Rattle.kinds.specs.Answers.{unknown-version, estimate-answer};
 ghost use Rattle.rules.specs.Counts.{columns};
 ghost use Rattle.print.specs.Page.{page, write};
 ghost use Rattle.print.specs.Numerals.{decimal};
-ghost use Rattle.report.specs.Words.{height};
+ghost use Rattle.report.specs.Words.{height, refused};
 ghost use Rattle.report.specs.Shown.{line, last-text, state-lines, target-lines, refusal};
 ghost use Rattle.report.specs.Pieces.{writes, carried-rate, answered};
 
 // A word and what is told of it.
-pub(crate) fn put_line(out: &mut [u8], at: usize, word: &[u8], text: &[u8]) -> usize
+fn put_line(out: &mut [u8], at: usize, word: &[u8], text: &[u8]) -> usize
     ensures { λ r. ⌜ page (now (out .exit)) r ≡ writes (line (now (word .entry)) (now (text .entry))) (page (now (out .entry)) at) ⌝ }
 {
     let a = put(out, at, word);
     let b = put(out, a, text);
     put_byte(out, b, b'\n')
+}
+
+// That a file is refused, and why, at the start of the page.
+pub(crate) fn put_refused(out: &mut [u8], name: &[u8]) -> usize
+    ensures { λ r. ⌜ page (now (out .exit)) r ≡ writes (line refused (now (name .entry))) (page (now (out .entry)) 0) ⌝ }
+{
+    put_line(out, 0, b"refused ", name)
 }
 
 // A word and a number.

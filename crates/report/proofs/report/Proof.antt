@@ -11,20 +11,17 @@ use borrow.Author.Needs.{needs}
 use Rattle.report.proofs.report.Statement.{statement}
 use Rattle.report.proofs.report.Tie as tie
 
-slice-aggregate-put-line : tie.Need-slice-aggregate-put-line
-slice-aggregate-put-line c = search needs
+slice-aggregate-put-refused : tie.Need-slice-aggregate-put-refused
+slice-aggregate-put-refused c = search needs
 
-slice-aggregate-put-line-2 : tie.Need-slice-aggregate-put-line-2
-slice-aggregate-put-line-2 c = search needs
-
-put-line-requires : tie.Need-put-line-requires
-put-line-requires c κs = search needs
+put-refused-requires : tie.Need-put-refused-requires
+put-refused-requires c κs = search needs
 
 returns : tie.Need-returns
 returns c =
-    let s = c .before .before .before .before .before .before in
+    let s = c .before .before .before .before .before in
     let n : length (now (s .args .out)) ≡ 2048 = search needs in
-    put-too-long (now (s .args .file)) (now (s .args .out)) n (c .before .before .before .before .if1 .taken) _ _ (c .put-line .ensures)
+    put-too-long (now (s .args .file)) (now (s .args .out)) n (c .before .before .before .if1 .taken) _ _ (c .put-refused .ensures)
 
 slice-aggregate-from-history-bytes : tie.Need-slice-aggregate-from-history-bytes
 slice-aggregate-from-history-bytes c = search needs
@@ -64,9 +61,8 @@ pub report-spec : {M : Type 1} → statement M
 report-spec =
     tie.close
     (tie.spec
-    slice-aggregate-put-line
-    slice-aggregate-put-line-2
-    put-line-requires
+    slice-aggregate-put-refused
+    put-refused-requires
     returns
     slice-aggregate-from-history-bytes
     slice-aggregate-from-history-bytes-2

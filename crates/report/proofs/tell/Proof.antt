@@ -37,26 +37,20 @@ put-targets-requires c κs = search needs
 enum-told-2 : tie.Need-enum-told-2
 enum-told-2 c = search needs
 
-slice-aggregate-put-line : tie.Need-slice-aggregate-put-line
-slice-aggregate-put-line c = search needs
+slice-aggregate-put-refused : tie.Need-slice-aggregate-put-refused
+slice-aggregate-put-refused c = search needs
 
-slice-aggregate-put-line-2 : tie.Need-slice-aggregate-put-line-2
-slice-aggregate-put-line-2 c = search needs
-
-put-line-requires : tie.Need-put-line-requires
-put-line-requires c κs = search needs
+put-refused-requires : tie.Need-put-refused-requires
+put-refused-requires c κs = search needs
 
 enum-told-3 : tie.Need-enum-told-3
 enum-told-3 c = search needs
 
-slice-aggregate-put-line-3 : tie.Need-slice-aggregate-put-line-3
-slice-aggregate-put-line-3 c = search needs
+slice-aggregate-put-refused-2 : tie.Need-slice-aggregate-put-refused-2
+slice-aggregate-put-refused-2 c = search needs
 
-slice-aggregate-put-line-4 : tie.Need-slice-aggregate-put-line-4
-slice-aggregate-put-line-4 c = search needs
-
-put-line-requires-2 : tie.Need-put-line-requires-2
-put-line-requires-2 c κs = search needs
+put-refused-requires-2 : tie.Need-put-refused-requires-2
+put-refused-requires-2 c κs = search needs
 
 enum-known-answer : tie.Need-enum-known-answer
 enum-known-answer c = search needs
@@ -67,26 +61,20 @@ put-version-requires c κs = search needs
 enum-told-4 : tie.Need-enum-told-4
 enum-told-4 c = search needs
 
-slice-aggregate-put-line-5 : tie.Need-slice-aggregate-put-line-5
-slice-aggregate-put-line-5 c = search needs
+slice-aggregate-put-refused-3 : tie.Need-slice-aggregate-put-refused-3
+slice-aggregate-put-refused-3 c = search needs
 
-slice-aggregate-put-line-6 : tie.Need-slice-aggregate-put-line-6
-slice-aggregate-put-line-6 c = search needs
-
-put-line-requires-3 : tie.Need-put-line-requires-3
-put-line-requires-3 c κs = search needs
+put-refused-requires-3 : tie.Need-put-refused-requires-3
+put-refused-requires-3 c κs = search needs
 
 enum-told-5 : tie.Need-enum-told-5
 enum-told-5 c = search needs
 
-slice-aggregate-put-line-7 : tie.Need-slice-aggregate-put-line-7
-slice-aggregate-put-line-7 c = search needs
+slice-aggregate-put-refused-4 : tie.Need-slice-aggregate-put-refused-4
+slice-aggregate-put-refused-4 c = search needs
 
-slice-aggregate-put-line-8 : tie.Need-slice-aggregate-put-line-8
-slice-aggregate-put-line-8 c = search needs
-
-put-line-requires-4 : tie.Need-put-line-requires-4
-put-line-requires-4 c κs = search needs
+put-refused-requires-4 : tie.Need-put-refused-requires-4
+put-refused-requires-4 c κs = search needs
 
 same-length : tie.Need-same-length
 same-length c = search needs
@@ -104,14 +92,14 @@ same-length-2 c = search needs
 
 returns-2 : tie.Need-returns-2
 unfolding told refusal name carried line
-returns-2 c = as-told (c .before .before .before .before .before .before .before .before .before .before .before) _ (c .before .before .before .before .before .before .enum-told2 .given .1) (c .before .before .put-line .ensures)
+returns-2 c = let t = c .before .before .before .before .before in as-told (t .before .before .before .before .before) _ (t .enum-told2 .given .1) (c .before .before .put-refused .ensures)
 
 same-length-3 : tie.Need-same-length-3
 same-length-3 c = search needs
 
 returns-3 : tie.Need-returns-3
 unfolding told refusal name carried line
-returns-3 c = as-told (c .before .before .before .before .before .before .before .before .before .before .before) _ (c .before .before .before .before .before .before .enum-told3 .given .1) (c .before .before .put-line2 .ensures)
+returns-3 c = let t = c .before .before .before .before .before in as-told (t .before .before .before .before .before) _ (t .enum-told3 .given .1) (c .before .before .put-refused2 .ensures)
 
 same-length-4 : tie.Need-same-length-4
 same-length-4 c = search needs
@@ -125,14 +113,14 @@ same-length-5 c = search needs
 
 returns-5 : tie.Need-returns-5
 unfolding told refusal name carried line
-returns-5 c = as-told (c .before .before .before .before .before .before .before .before .before .before .before) _ (c .before .before .before .before .before .before .enum-told4 .given .1) (c .before .before .put-line3 .ensures)
+returns-5 c = let t = c .before .before .before .before .before in as-told (t .before .before .before .before .before) _ (t .enum-told4 .given .1) (c .before .before .put-refused3 .ensures)
 
 same-length-6 : tie.Need-same-length-6
 same-length-6 c = search needs
 
 returns-6 : tie.Need-returns-6
 unfolding told refusal name carried line
-returns-6 c = as-told (c .before .before .before .before .before .before .before .before .before .before .before) _ (c .before .before .before .before .before .before .enum-told5 .given .1) (c .before .before .put-line4 .ensures)
+returns-6 c = let t = c .before .before .before .before .before in as-told (t .before .before .before .before .before) _ (t .enum-told5 .given .1) (c .before .before .put-refused4 .ensures)
 
 pub tell-spec : {M : Type 1} → statement M
 tell-spec =
@@ -142,23 +130,19 @@ tell-spec =
     put-state-requires
     put-targets-requires
     enum-told-2
-    slice-aggregate-put-line
-    slice-aggregate-put-line-2
-    put-line-requires
+    slice-aggregate-put-refused
+    put-refused-requires
     enum-told-3
-    slice-aggregate-put-line-3
-    slice-aggregate-put-line-4
-    put-line-requires-2
+    slice-aggregate-put-refused-2
+    put-refused-requires-2
     enum-known-answer
     put-version-requires
     enum-told-4
-    slice-aggregate-put-line-5
-    slice-aggregate-put-line-6
-    put-line-requires-3
+    slice-aggregate-put-refused-3
+    put-refused-requires-3
     enum-told-5
-    slice-aggregate-put-line-7
-    slice-aggregate-put-line-8
-    put-line-requires-4
+    slice-aggregate-put-refused-4
+    put-refused-requires-4
     same-length
     returns
     same-length-2
