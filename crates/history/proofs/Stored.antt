@@ -1,6 +1,6 @@
 -- What the reading call leaves, case by case: a refusal leaves all as it was, and a file that is stored is the estimator that its records make, laid.
 -- Assumes nothing.
-use mathlib.Core.Path.{_≡_, refl, sym, ap, _∙_, subst}
+use mathlib.Core.Path.{_≡_, refl, sym, ap, ap₂, _∙_, subst}
 use mathlib.Core.List.{List, [], _++_, map}
 use Prim.Native.Nat.{ℕ, _+_, _*_, _≤_}
 use native.Mathlib.Omega.{arith}
@@ -29,9 +29,9 @@ use Rattle.settle.proofs.Bridge.{same-count, same-table}
 -- ---- what is stored
 
 -- a table under the definition's names
-pub table-as : (size n room cap : ℕ) (zs src xs ys : List ℕ) → room ≡ cap → zs ≡ src → ys ≡ laid size room (settled id-of [] (records size n zs)) xs → ys ≡ laid size cap (settled id-of [] (records size n src)) xs
-table-as size n room cap zs src xs ys e f g =
-    g ∙ ap (λ (k : ℕ). laid size k (settled id-of [] (records size n zs)) xs) e ∙ ap (λ (z : List ℕ). laid size cap (settled id-of [] (records size n z)) xs) f
+pub table-as : (z size room cap : ℕ) (rs qs : List (List ℕ)) (xs ys : List ℕ) → z ≡ size → room ≡ cap → rs ≡ qs → ys ≡ laid z room (settled id-of [] rs) xs → ys ≡ laid size cap (settled id-of [] qs) xs
+table-as z size room cap rs qs xs ys e f g h =
+    h ∙ ap₂ (λ (i j : ℕ). laid i j (settled id-of [] rs) xs) e f ∙ ap (λ (x : List (List ℕ)). laid size cap (settled id-of [] x) xs) g
 
 -- an outcome, by its parts
 abbrev made : Last → ℕ → ℕ → List Float → List Float → List ℕ → List ℕ → Outcome Lent
@@ -58,10 +58,10 @@ module _ (v : Version) (k : Board) (law : Lawful k) (same : v .records ≡ k .ta
   abbrev cs : List (List ℕ)
   cs = settled id-of [] (records confirmed-size m (drop to s))
 
-  pub pending-whole : n * k .table .size ≤ length (drop at s)
+  pending-whole : n * k .table .size ≤ length (drop at s)
   pending-whole = subst (λ (y : Layout). n * y .size ≤ length (drop at s)) same (rw length-drop (omega (arith, h .long)))
 
-  pub recent-whole : m * confirmed-size ≤ length (drop to s)
+  recent-whole : m * confirmed-size ≤ length (drop to s)
   recent-whole = rw length-drop (omega (arith, h .long))
 
   -- what the file holds, its pending records laid out so

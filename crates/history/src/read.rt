@@ -1,5 +1,4 @@
 // Reading a history file into the lent memory. Nothing is stored before the whole file is accepted.
-use codec::buckets::load_buckets;
 use kinds::BUCKETS_SIZE;
 use kinds::CONFIRMED_SIZE;
 use kinds::COUNTS;
@@ -12,9 +11,10 @@ use kinds::ReadAnswer;
 use kinds::Reading;
 use kinds::State;
 use parse::Header;
-use parse::after;
 use parse::check;
 use parse::header_len;
+use parse::load_buckets;
+use parse::part;
 use parse::record_size;
 use settle::load_table;
 ghost use mathlib.Core.Path.{_≡_};
@@ -69,10 +69,12 @@ fn store(
     let size = boards::record_size(on);
     let at = header_len(last, version);
     let first = at + BUCKETS_SIZE + 4;
-    let next = first + n * record_size(version) + 4;
+    let len = n * record_size(version);
+    let next = first + len + 4;
     load_buckets(bytes, at, confirmed, resolved);
-    let p = load_table(pending, after(bytes, first), size, n, most);
-    let q = load_table(recent, after(bytes, next), CONFIRMED_SIZE, m, more);
+    let p = load_table(pending, part(bytes, first, len), size, n, most);
+    let rest = part(bytes, next, m * CONFIRMED_SIZE);
+    let q = load_table(recent, rest, CONFIRMED_SIZE, m, more);
     State {
         last,
         pending: p,

@@ -1,3 +1,4 @@
+pub mod Taken
 pub mod Same
 pub mod Header
 pub mod Listed

@@ -16,6 +16,7 @@ use Rattle.rules.specs.Records.{records}
 use Rattle.rules.specs.Board.{Pending, pending-of, confirmed-size, confirmed-of, in-range, pending-most, confirmed-most}
 use Rattle.rules.proofs.Records.{and-left, and-right}
 use Rattle.mem.specs.Le.{le-at}
+use Rattle.parse.proofs.Taken.{long-taken, records-taken}
 use Rattle.format.specs.Parts.{Read, stopped, got, Part, give, number, times, bad, good, ended}
 use Rattle.format.specs.File.{Version, version-told, read-pending, read-confirmed, read-table, Tables, read-tables}
 use Rattle.codec.proofs.Tells.{then-got, then-stopped, must-yes, must-no, number-at, number-short, Tells, tells-give, tells-must, tells-to, tells-then, tells-last, tells-takes, Takes, too-short, takes-give, takes-as, takes-takes, takes-if, takes-then, takes-times}
@@ -91,8 +92,13 @@ module _ (size most : ℕ) (s : List ℕ) (at : ℕ) where
   pub end-room : has-table size most s at ≡ true → (n : ℕ) → n ≡ le-at 4 s at → at + 4 + n * size ≤ length s
   end-room h n e = subst (λ (k : ℕ). at + 4 + k * size ≤ length s) (sym e) (has size most s at h .room)
 
-  pub records-room : has-table size most s at ≡ true → (n : ℕ) → n ≡ le-at 4 s at → (xs : List ℕ) → xs ≡ drop (at + 4) s → n * size ≤ length xs
-  records-room h n e xs f = let k = ap length f ∙ length-drop (at + 4) s in omega (arith, end-room h n e, k)
+  -- the records' bytes, as they are taken
+  module _ (h : has-table size most s at ≡ true) (n : ℕ) (e : n ≡ le-at 4 s at) (xs : List ℕ) (f : xs ≡ take (n * size) (drop (at + 4) s)) where
+    pub records-room : length xs ≡ n * size
+    records-room = long-taken (n * size) s (at + 4) xs f (end-room h n e)
+
+    pub records-are : records size n xs ≡ records size n (drop (at + 4) s)
+    records-are = ap (records size n) f ∙ records-taken size n (drop (at + 4) s) (simp length-drop (omega (arith, end-room h n e)))
 
 module _ {A : Type 0} (size most : ℕ) (one : Part A) (s : List ℕ) (at : ℕ) where
   -- the records after their number

@@ -1,4 +1,6 @@
 // The header: magic, version and what stands after it, last height, bucket count.
+use crate::reader::number;
+use crate::reader::part;
 use crate::version::after_len;
 use crate::version::number_of;
 use codec::numbers::put_u8;
@@ -39,7 +41,7 @@ fn counted(s: &[u8], at: usize) -> bool
     if s.len() - at < 4 {
         return false;
     }
-    mem::u32_le(s, at) == BUCKET_COUNT as u32
+    number(s, at) == BUCKET_COUNT as u32
 }
 
 // The header's end, after the last height.
@@ -64,7 +66,7 @@ fn followed(s: &[u8], version: FileVersion) -> bool
             if s.len() < 16 {
                 return false;
             }
-            mem::u32_le(s, 12) == WIDE_WIDTH
+            number(s, 12) == WIDE_WIDTH
         }
     }
 }
@@ -77,7 +79,7 @@ fn starts(s: &[u8], at: usize) -> Header
     if s.len() - at < 1 {
         return Header::Corrupt;
     }
-    let flag = s[at];
+    let flag = part(s, at, 1)[0];
     if flag == 0 {
         return ends(s, at + 1, Last::Nothing);
     }
@@ -87,7 +89,7 @@ fn starts(s: &[u8], at: usize) -> Header
     if s.len() - at < 5 {
         return Header::Corrupt;
     }
-    let h = mem::u32_le(s, at + 1);
+    let h = number(s, at + 1);
     ends(s, at + 5, Last::At(Height(h)))
 }
 
@@ -98,14 +100,14 @@ pub fn read_header(s: &[u8], version: FileVersion) -> Header
     if s.len() < 8 {
         return Header::Corrupt;
     }
-    let m = u64_le(s, 0);
+    let m = u64_le(part(s, 0, 8), 0);
     if m != MAGIC {
         return Header::BadMagic;
     }
     if s.len() < 12 {
         return Header::Corrupt;
     }
-    let v = mem::u32_le(s, 8);
+    let v = number(s, 8);
     if v != number_of(version) {
         return Header::UnknownVersion(v);
     }

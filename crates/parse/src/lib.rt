@@ -1,10 +1,12 @@
-// The history file: its header, put and read, and the whole of it, judged before anything is stored.
+// The history file: its header, put and read, its buckets and tables, and the whole of it, judged before anything is stored.
+mod buckets;
 mod head;
 mod reader;
 mod tables;
 mod version;
 
-use codec::buckets::buckets_ok;
+use buckets::buckets_ok;
+pub use buckets::load_buckets;
 pub use head::Header;
 pub use head::header_len;
 pub use head::put_header;
@@ -12,7 +14,6 @@ use head::read_header;
 use kinds::BUCKETS_SIZE;
 use kinds::FileVersion;
 use kinds::Last;
-pub use reader::after;
 pub use reader::part;
 use tables::read_tables;
 pub use version::record_size;

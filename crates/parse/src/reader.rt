@@ -1,12 +1,14 @@
 // A reader of the history's bytes: a thin record that holds what is left of them. Its step takes the record apart and calls the covered functions on parts of lent bytes.
 ghost use mathlib.Core.Path.{_≡_};
-ghost use lib.ListN.{take, drop};
+ghost use Prim.Native.Nat.{_+_, _≤_};
+ghost use lib.ListN.{length, take, drop};
+ghost use Rattle.mem.specs.Le.{le-at};
 
 pub struct Reader<'a> {
     pub bytes: &'a [u8],
 }
 
-pub fn new<'a>(bytes: &'a [u8]) -> Reader<'a>
+pub(crate) fn new<'a>(bytes: &'a [u8]) -> Reader<'a>
     ensures { λ r. ⌜ r .bytes ≡ bytes .entry ⌝ }
 {
     Reader { bytes }
@@ -25,7 +27,7 @@ impl<'a> Reader<'a> {
 }
 
 // What a reader of s holds after n bytes were taken.
-pub fn after(s: &[u8], n: usize) -> &[u8]
+fn after(s: &[u8], n: usize) -> &[u8]
     ensures { λ r. ⌜ now r ≡ drop n (now (s .entry)) ⌝ }
 {
     let mut r = new(s);
@@ -34,7 +36,7 @@ pub fn after(s: &[u8], n: usize) -> &[u8]
 }
 
 // What a reader of s hands back as the first n bytes.
-pub fn first(s: &[u8], n: usize) -> &[u8]
+fn first(s: &[u8], n: usize) -> &[u8]
     ensures { λ r. ⌜ (r .ptr ≡ s .entry .ptr) × (now r ≡ take n (now (s .entry))) ⌝ }
 {
     let mut r = new(s);
@@ -46,4 +48,12 @@ pub fn part(s: &[u8], at: usize, n: usize) -> &[u8]
     ensures { λ r. ⌜ now r ≡ take n (drop at (now (s .entry))) ⌝ }
 {
     first(after(s, at), n)
+}
+
+// The number in the four bytes after the first `at`.
+pub(crate) fn number(s: &[u8], at: usize) -> u32
+    requires { ⌜ at + 4 ≤ length (now s) ⌝ }
+    ensures { λ r. ⌜ r ≡ le-at 4 (now (s .entry)) at ⌝ }
+{
+    mem::u32_le(part(s, at, 4), 0)
 }

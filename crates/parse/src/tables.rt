@@ -1,6 +1,7 @@
 // The two tables of a file, and its end.
+use crate::reader::number;
+use crate::reader::part;
 use crate::version::record_size;
-use codec::numbers::rest;
 use kinds::CONFIRMED_SIZE;
 use kinds::FileVersion;
 use kinds::MAX_CONFIRMED_RECORDS;
@@ -48,7 +49,7 @@ fn listed(s: &[u8], at: usize, size: usize, most: usize) -> Listing
     if s.len() - at < 4 {
         return unlisted();
     }
-    let n = mem::u32_le(s, at) as usize;
+    let n = number(s, at) as usize;
     if most < n {
         return unlisted();
     }
@@ -81,7 +82,7 @@ pub fn read_tables(s: &[u8], at: usize, version: FileVersion) -> Sizes
     if !first {
         return unreadable();
     }
-    if !judge::in_range(rest(s, at + 4), size, n) {
+    if !judge::in_range(part(s, at + 4, n * size), size, n) {
         return unreadable();
     }
     let next = at + 4 + n * size;

@@ -14,14 +14,14 @@ sub-if1 c = search needs
 returns : tie.Need-returns
 returns c = let a = c .before .before .args in sym (count-short (a .s .now) (a .at) (omega arith) (omega arith))
 
-u32-le-requires : tie.Need-u32-le-requires
-u32-le-requires c κs = search needs
+number-requires : tie.Need-number-requires
+number-requires c κs = search needs
 
 cast-result : tie.Need-cast-result
 cast-result c = search needs
 
 returns-2 : tie.Need-returns-2
-returns-2 c = let a = c .before .before .before .args in ap (λ (n : ℕ). eqb n 142) (c .u32-le .ensures) ∙ sym (count-is (a .s .now) (a .at) (omega arith))
+returns-2 c = let a = c .before .before .before .args in ap (λ (n : ℕ). eqb n 142) (c .number .ensures) ∙ sym (count-is (a .s .now) (a .at) (omega arith))
 
 pub counted-spec : {M : Type 1} → statement M
-counted-spec = tie.close (tie.spec sub-if1 returns u32-le-requires cast-result returns-2)
+counted-spec = tie.close (tie.spec sub-if1 returns number-requires cast-result returns-2)

@@ -24,8 +24,8 @@ returns c =
     let s = c .before .before .before .before .args .s .now in
     sym (ap (λ (v : FileVersion). is-read (read-after (version-told v) (drop 12 s))) (c .before .enum-told2 .given .1) ∙ after-short s (omega arith) (omega arith))
 
-u32-le-requires : tie.Need-u32-le-requires
-u32-le-requires c κs = search needs
+number-requires : tie.Need-number-requires
+number-requires c κs = search needs
 
 returns-2 : tie.Need-returns-2
 returns-2 c =
@@ -36,9 +36,9 @@ returns-3 : tie.Need-returns-3
 returns-3 c =
     let s = c .before .before .before .before .before .args .s .now in
     let b = are-bytes s (λ i. c .before .before .before .before .shared-slice-known .given i .fits) in
-    ap (λ (n : ℕ). eqb n 6) (c .u32-le .ensures)
+    ap (λ (n : ℕ). eqb n 6) (c .number .ensures)
     ∙ sym (ap (λ (v : FileVersion). is-read (read-after (version-told v) (drop 12 s))) (c .before .before .enum-told2 .given .1) ∙ after-three s (omega arith) b)
 
 pub followed-spec : {M : Type 1} → statement M
 followed-spec =
-    tie.close (tie.spec enum-told enum-told-2 returns u32-le-requires returns-2 returns-3)
+    tie.close (tie.spec enum-told enum-told-2 returns number-requires returns-2 returns-3)

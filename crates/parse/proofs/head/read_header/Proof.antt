@@ -3,6 +3,7 @@ use mathlib.Core.Path.{_≡_, sym, ap, _∙_}
 use mathlib.Core.Bool.{true}
 use Prim.Native.Nat.{ℕ, _+_, _≤_}
 use native.Mathlib.Omega.{arith}
+use denote.Ref.{now}
 use borrow.Author.Tests.{eq-eqb, ne-eqb}
 use lib.ListN.{length, take}
 use Rattle.kinds.specs.Answers.{unknown-version}
@@ -13,42 +14,50 @@ use Rattle.format.specs.Parts.{bad, begun}
 use Rattle.format.specs.File.{version-told, magic}
 use Rattle.parse.specs.Says.{header-says}
 use Rattle.parse.proofs.Same.{is-magic}
+use Rattle.parse.proofs.Taken.{number-taken, long-taken}
 use Rattle.parse.proofs.Header.{after-room, head-short, head-other, head-no-version, head-version, head-width, head-rest}
 use borrow.Author.Needs.{needs}
 use Rattle.parse.proofs.head.read_header.Statement.{statement}
 use Rattle.parse.proofs.head.read_header.Tie as tie
 
+-- the number of the first eight bytes
+first-eight : (u : tie.After-u64-le) → u .u64-le .result ≡ le-at 8 (u .before .before .before .before .args .s .now) 0
+first-eight u = u .u64-le .ensures ∙ number-taken 8 (u .before .before .before .before .args .s .now) 0 (now (u .before .part .result)) (u .before .part .ensures)
+
 -- the magic is there, from where it was compared
-magic-room : (m : tie.Else2) → 8 ≤ length (m .before .before .before .before .args .s .now)
+magic-room : (m : tie.Else2) → 8 ≤ length (m .before .before .before .before .before .args .s .now)
 magic-room m = omega arith
 
-magic-there : (m : tie.Else2) → same (take 8 (m .before .before .before .before .args .s .now)) magic ≡ true
+magic-there : (m : tie.Else2) → same (take 8 (m .before .before .before .before .before .args .s .now)) magic ≡ true
 magic-there m =
-    let s = m .before .before .before .before .args .s .now in
-    let n : le-at 8 s 0 ≡ 0x5345454645535242 = omega arith in
-    sym (is-magic s (magic-room m) (are-bytes s (λ i. m .before .before .before .shared-slice-known .given i .fits))) ∙ eq-eqb _ _ n
+    let s = m .before .before .before .before .before .args .s .now in
+    let n : le-at 8 s 0 ≡ 0x5345454645535242 = omega (arith, first-eight (m .before), m .if2 .left) in
+    sym (is-magic s (magic-room m) (are-bytes s (λ i. m .before .before .before .before .shared-slice-known .given i .fits))) ∙ eq-eqb _ _ n
 
 returns : tie.Need-returns
 unfolding header-says begun
 returns c = sym (ap begun (head-short _ (c .before .before .args .s .now) (omega arith)))
 
+part-requires : tie.Need-part-requires
+part-requires c κs = search needs
+
 u64-le-requires : tie.Need-u64-le-requires
-u64-le-requires c κs = search needs
+u64-le-requires c κs = let s = c .before .before .before .args .s .now in omega (arith, long-taken 8 s 0 (now (c .part .result)) (c .part .ensures) (omega arith))
 
 returns-2 : tie.Need-returns-2
 unfolding header-says begun
 returns-2 c =
-    let s = c .before .before .before .before .args .s .now in
+    let s = c .before .before .before .before .before .args .s .now in
     let h : 8 ≤ length s = omega arith in
-    let n : le-at 8 s 0 ≡ 0x5345454645535242 → ⊥ = λ e. omega arith in
-    sym (ap begun (head-other _ s h (sym (is-magic s h (are-bytes s (λ i. c .before .before .before .shared-slice-known .given i .fits))) ∙ ne-eqb _ _ n)))
+    let n : le-at 8 s 0 ≡ 0x5345454645535242 → ⊥ = λ e. omega (arith, first-eight (c .before), c .if2 .taken) in
+    sym (ap begun (head-other _ s h (sym (is-magic s h (are-bytes s (λ i. c .before .before .before .before .shared-slice-known .given i .fits))) ∙ ne-eqb _ _ n)))
 
 returns-3 : tie.Need-returns-3
 unfolding header-says begun
 returns-3 c = sym (ap begun (head-no-version _ _ (magic-room (c .before)) (magic-there (c .before)) (omega arith)))
 
-u32-le-requires : tie.Need-u32-le-requires
-u32-le-requires c κs = search needs
+number-requires : tie.Need-number-requires
+number-requires c κs = search needs
 
 number-of-requires : tie.Need-number-of-requires
 number-of-requires c κs = search needs
@@ -57,9 +66,10 @@ returns-4 : tie.Need-returns-4
 unfolding header-says begun
 returns-4 c =
     let m = c .before .before .before .before in
-    let v = version-told (c .before .before .before .before .before .before .before .before .args .version) in
-    let n : le-at 4 (c .before .before .before .before .before .before .before .before .args .s .now) 8 ≡ v .number → ⊥ = λ e. omega (arith, c .before .before .u32-le .ensures, c .before .number-of .ensures, c .if4 .taken) in
-    ap (λ (n : ℕ). bad (unknown-version n)) (c .before .before .u32-le .ensures) ∙ sym (ap begun (head-version v _ (magic-room m) (magic-there m) (omega arith) n))
+    let a = c .before .before .before .before .before .before .before .before .before .args in
+    let v = version-told (a .version) in
+    let n : le-at 4 (a .s .now) 8 ≡ v .number → ⊥ = λ e. omega (arith, c .before .before .number .ensures, c .before .number-of .ensures, c .if4 .taken) in
+    ap (λ (n : ℕ). bad (unknown-version n)) (c .before .before .number .ensures) ∙ sym (ap begun (head-version v _ (magic-room m) (magic-there m) (omega arith) n))
 
 followed-requires : tie.Need-followed-requires
 followed-requires c κs = search needs
@@ -72,25 +82,25 @@ add-starts c = search needs
 
 starts-requires : tie.Need-starts-requires
 starts-requires c κs =
-    let a = c .before .before .before .before .before .before .before .before .before .before .before .args in
+    let a = c .before .before .before .before .before .before .before .before .before .before .before .before .args in
     omega (arith, after-room (version-told (a .version)) (a .s .now) (omega arith) (sym (c .before .before .followed .ensures) ∙ c .before .if5 .taken), c .after-len .ensures .0)
 
 returns-5 : tie.Need-returns-5
 returns-5 c =
-    let a = c .before .before .before .before .before .before .before .before .before .before .before .before .args in
+    let a = c .before .before .before .before .before .before .before .before .before .before .before .before .before .args in
     let m = c .before .before .before .before .before .before .before .before in
     let v = version-told (a .version) in
-    let n : le-at 4 (a .s .now) 8 ≡ v .number = omega (arith, c .before .before .before .before .before .before .u32-le .ensures, c .before .before .before .before .before .number-of .ensures, c .before .before .before .before .if4 .left) in
+    let n : le-at 4 (a .s .now) 8 ≡ v .number = omega (arith, c .before .before .before .before .before .before .number .ensures, c .before .before .before .before .before .number-of .ensures, c .before .before .before .before .if4 .left) in
     c .starts .ensures
     ∙ sym (ap begun (head-rest v _ (magic-room m) (magic-there m) (omega arith) n (12 + c .before .after-len .result) (ap (λ (i : ℕ). 12 + i) (c .before .after-len .ensures .0)) (sym (c .before .before .before .followed .ensures) ∙ c .before .before .if5 .taken)))
 
 returns-6 : tie.Need-returns-6
 unfolding header-says begun
 returns-6 c =
-    let a = c .before .before .before .before .before .before .before .before .before .before .args in
+    let a = c .before .before .before .before .before .before .before .before .before .before .before .args in
     let m = c .before .before .before .before .before .before in
     let v = version-told (a .version) in
-    let n : le-at 4 (a .s .now) 8 ≡ v .number = omega (arith, c .before .before .before .before .u32-le .ensures, c .before .before .before .number-of .ensures, c .before .before .if4 .left) in
+    let n : le-at 4 (a .s .now) 8 ≡ v .number = omega (arith, c .before .before .before .before .number .ensures, c .before .before .before .number-of .ensures, c .before .before .if4 .left) in
     sym (ap begun (head-width v _ (magic-room m) (magic-there m) (omega arith) n (sym (c .before .followed .ensures) ∙ c .if5 .left)))
 
 pub read-header-spec : {M : Type 1} → statement M
@@ -98,10 +108,11 @@ read-header-spec =
     tie.close
     (tie.spec
     returns
+    part-requires
     u64-le-requires
     returns-2
     returns-3
-    u32-le-requires
+    number-requires
     number-of-requires
     returns-4
     followed-requires

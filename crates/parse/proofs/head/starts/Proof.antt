@@ -2,15 +2,21 @@
 use mathlib.Core.Path.{_≡_, sym, ap, _∙_}
 use Prim.Native.Nat.{ℕ, _+_}
 use native.Mathlib.Omega.{arith}
+use denote.Ref.{now}
 use lib.ListN.{drop, getD}
 use Rattle.kinds.specs.declared.Last.the-variants.{At}
 use Rattle.format.specs.Parts.{begun}
 use Rattle.format.specs.File.{with-bucket-count}
 use Rattle.parse.specs.Says.{header-says}
+use Rattle.parse.proofs.Taken.{long-taken, byte-taken}
 use Rattle.parse.proofs.Header.{no-flag, flag-none, flag-other, flag-short, flag-at}
 use borrow.Author.Needs.{needs}
 use Rattle.parse.proofs.head.starts.Statement.{statement}
 use Rattle.parse.proofs.head.starts.Tie as tie
+
+-- the flag is the byte at its place
+flag : (p : tie.After-part) → getD (now (p .part .result)) 0 0 ≡ getD (p .before .before .before .args .s .now) (p .before .before .before .args .at) 0
+flag p = let a = p .before .before .before .args in byte-taken 1 (a .s .now) (a .at) (now (p .part .result)) (p .part .ensures) (omega arith)
 
 sub-if1 : tie.Need-sub-if1
 sub-if1 c = search needs
@@ -19,8 +25,11 @@ returns : tie.Need-returns
 unfolding header-says begun
 returns c = let a = c .before .before .args in sym (ap begun (no-flag (a .s .now) (a .at) (omega arith) (omega arith)))
 
+part-requires : tie.Need-part-requires
+part-requires c κs = search needs
+
 shared-slice-read-flag : tie.Need-shared-slice-read-flag
-shared-slice-read-flag c = search needs
+shared-slice-read-flag c = let a = c .before .before .before .before .args in omega (arith, long-taken 1 (a .s .now) (a .at) (now (c .before .part .result)) (c .before .part .ensures) (omega arith))
 
 add-ends : tie.Need-add-ends
 add-ends c = search needs
@@ -29,14 +38,14 @@ ends-requires : tie.Need-ends-requires
 ends-requires c κs = search needs
 
 returns-2 : tie.Need-returns-2
-returns-2 c = let a = c .before .before .before .before .before .args in c .ends .ensures ∙ ap begun (sym (flag-none (a .s .now) (a .at) (omega arith) (omega arith)))
+returns-2 c = let a = c .before .before .before .before .before .before .args in c .ends .ensures ∙ ap begun (sym (flag-none (a .s .now) (a .at) (omega arith) (omega (arith, flag (c .before .before .before), c .before .if2 .taken))))
 
 returns-3 : tie.Need-returns-3
 unfolding header-says begun
 returns-3 c =
-    let a = c .before .before .before .before .before .args in
-    let f : getD (a .s .now) (a .at) 0 ≡ 0 → ⊥ = λ e. omega arith in
-    let g : getD (a .s .now) (a .at) 0 ≡ 1 → ⊥ = λ e. omega arith in
+    let a = c .before .before .before .before .before .before .args in
+    let f : getD (a .s .now) (a .at) 0 ≡ 0 → ⊥ = λ e. omega (arith, flag (c .before .before .before), c .before .if2 .left) in
+    let g : getD (a .s .now) (a .at) 0 ≡ 1 → ⊥ = λ e. omega (arith, flag (c .before .before .before), c .if3 .taken) in
     sym (ap begun (flag-other (a .s .now) (a .at) (omega arith) f g))
 
 sub-if4 : tie.Need-sub-if4
@@ -44,13 +53,13 @@ sub-if4 c = search needs
 
 returns-4 : tie.Need-returns-4
 unfolding header-says begun
-returns-4 c = let a = c .before .before .before .before .before .before .args in sym (ap begun (flag-short (a .s .now) (a .at) (omega arith) (omega arith) (omega arith)))
+returns-4 c = let a = c .before .before .before .before .before .before .before .args in sym (ap begun (flag-short (a .s .now) (a .at) (omega arith) (omega (arith, flag (c .before .before .before .before), c .before .if3 .left)) (omega arith)))
 
-add-u32-le : tie.Need-add-u32-le
-add-u32-le c = search needs
+add-number : tie.Need-add-number
+add-number c = search needs
 
-u32-le-requires : tie.Need-u32-le-requires
-u32-le-requires c κs = search needs
+number-requires : tie.Need-number-requires
+number-requires c κs = search needs
 
 add-ends-2 : tie.Need-add-ends-2
 add-ends-2 c = search needs
@@ -60,10 +69,10 @@ ends-requires-2 c κs = search needs
 
 returns-5 : tie.Need-returns-5
 returns-5 c =
-    let a = c .before .before .before .before .before .before .before .before .args in
+    let a = c .before .before .before .before .before .before .before .before .before .args in
     c .ends2 .ensures
-    ∙ ap (λ (n : ℕ). begun (with-bucket-count (At (record { 0 = n })) (drop (a .at + 5) (a .s .now)))) (c .before .u32-le .ensures)
-    ∙ ap begun (sym (flag-at (a .s .now) (a .at) (omega arith) (omega arith)))
+    ∙ ap (λ (n : ℕ). begun (with-bucket-count (At (record { 0 = n })) (drop (a .at + 5) (a .s .now)))) (c .before .number .ensures)
+    ∙ ap begun (sym (flag-at (a .s .now) (a .at) (omega arith) (omega (arith, flag (c .before .before .before .before .before .before), c .before .before .before .if3 .left))))
 
 pub starts-spec : {M : Type 1} → statement M
 starts-spec =
@@ -71,6 +80,7 @@ starts-spec =
     (tie.spec
     sub-if1
     returns
+    part-requires
     shared-slice-read-flag
     add-ends
     ends-requires
@@ -78,8 +88,8 @@ starts-spec =
     returns-3
     sub-if4
     returns-4
-    add-u32-le
-    u32-le-requires
+    add-number
+    number-requires
     add-ends-2
     ends-requires-2
     returns-5)

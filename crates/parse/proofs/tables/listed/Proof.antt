@@ -21,8 +21,8 @@ returns c =
     let f = c .unlisted .ensures in
     (f ∙ sym (has-short (a .size) (a .most) (a .s .now) (a .at) (omega arith)), never _ f)
 
-u32-le-requires : tie.Need-u32-le-requires
-u32-le-requires c κs = search needs
+number-requires : tie.Need-number-requires
+number-requires c κs = search needs
 
 cast-n : tie.Need-cast-n
 cast-n c = search needs
@@ -34,7 +34,7 @@ returns-2 : tie.Need-returns-2
 returns-2 c =
     let a = c .before .before .before .before .before .args in
     let f = c .unlisted2 .ensures in
-    (f ∙ sym (has-many (a .size) (a .most) (a .s .now) (a .at) (omega (arith, c .before .before .u32-le .ensures, c .before .if2 .taken))), never _ f)
+    (f ∙ sym (has-many (a .size) (a .most) (a .s .now) (a .at) (omega (arith, c .before .before .number .ensures, c .before .if2 .taken))), never _ f)
 
 sub-if3 : tie.Need-sub-if3
 sub-if3 c = search needs
@@ -45,7 +45,7 @@ sub-if3-2 c = search needs
 mul-if3 : tie.Need-mul-if3
 mul-if3 c =
     let a = c .before .before .before .before .args in
-    let n = c .before .u32-le .result in
+    let n = c .before .number .result in
     let h : n ≤ 1000000 = omega arith in
     omega (arith, mul-le-mul-right (a .size) h)
 
@@ -56,14 +56,14 @@ returns-3 : tie.Need-returns-3
 returns-3 c =
     let a = c .before .before .before .before .before .before .args in
     let f = c .unlisted3 .ensures in
-    let e = ap (λ (n : ℕ). n * a .size) (c .before .before .before .u32-le .ensures) in
+    let e = ap (λ (n : ℕ). n * a .size) (c .before .before .before .number .ensures) in
     (f ∙ sym (has-short (a .size) (a .most) (a .s .now) (a .at) (omega (arith, e, c .before .if3 .taken))), never _ f)
 
 returns-4 : tie.Need-returns-4
 returns-4 c =
     let a = c .before .before .before .before .before .args in
-    let e = ap (λ (n : ℕ). n * a .size) (c .before .before .u32-le .ensures) in
-    (sym (has-yes (a .size) (a .most) (a .s .now) (a .at) (omega (arith, c .before .before .u32-le .ensures, c .before .if2 .left)) (omega (arith, e, c .if3 .left))), λ t. c .before .before .u32-le .ensures)
+    let e = ap (λ (n : ℕ). n * a .size) (c .before .before .number .ensures) in
+    (sym (has-yes (a .size) (a .most) (a .s .now) (a .at) (omega (arith, c .before .before .number .ensures, c .before .if2 .left)) (omega (arith, e, c .if3 .left))), λ t. c .before .before .number .ensures)
 
 pub listed-spec : {M : Type 1} → statement M
 listed-spec =
@@ -72,7 +72,7 @@ listed-spec =
     sub-if1
     unlisted-requires
     returns
-    u32-le-requires
+    number-requires
     cast-n
     unlisted-requires-2
     returns-2

@@ -17,7 +17,7 @@ use Rattle.format.specs.File.{Version, version-told}
 use Rattle.parse.specs.Places.{has-table}
 use Rattle.parse.specs.Says.{tables-say}
 use Rattle.parse.specs.declared.tables.Sizes.{Sizes}
-use Rattle.parse.proofs.Listed.{told-read, end-room, records-room, no-first, out-of-range, no-second, extra, both-said}
+use Rattle.parse.proofs.Listed.{told-read, end-room, records-room, records-are, no-first, out-of-range, no-second, extra, both-said}
 use borrow.Author.Needs.{needs}
 use Rattle.parse.proofs.tables.read_tables.Statement.{statement}
 use Rattle.parse.proofs.tables.read_tables.Tie as tie
@@ -39,7 +39,10 @@ ends f = end-room (f .before .before .record-size .result) pending-most (f .befo
 -- whether its records are in range
 ranged : (r : tie.After-in-range) → r .in-range .result ≡ every in-range (map pending-of (records (r .before .before .before .before .record-size .result) (r .before .before .before .listed .result .count) (drop (r .before .before .before .before .before .before .args .at + 4) (r .before .before .before .before .before .before .args .s .now))))
 ranged r =
-    r .in-range .ensures ∙ ap (λ (xs : List ℕ). every in-range (map pending-of (records (r .before .before .before .before .record-size .result) (r .before .before .before .listed .result .count) xs))) (r .before .rest .ensures)
+    let f = r .before .before in
+    let a = r .before .before .before .before .before .before .args in
+    r .in-range .ensures
+    ∙ ap (λ (xs : List (List ℕ)). every in-range (map pending-of xs)) (records-are (r .before .before .before .before .record-size .result) pending-most (a .s .now) (a .at) (first f) (r .before .before .before .listed .result .count) (count f) (now (r .before .part .result)) (r .before .part .ensures))
 
 -- the second table is there, and how many records it has
 abbrev next : tie.Else3 → ℕ
@@ -70,17 +73,21 @@ returns c =
     unreadable-says _ _ (a .s .now) (a .at) (c .unreadable .ensures)
     ∙ sym (no-first _ (z .result) pending-of (z .ensures .0) (told-read (a .version)) (a .s .now) (a .at) (omega arith) (sym (c .before .before .listed .ensures .0) ∙ not-true _ (c .before .if1 .taken)))
 
-add-rest : tie.Need-add-rest
-add-rest c = search needs
+add-part : tie.Need-add-part
+add-part c = search needs
 
-rest-requires : tie.Need-rest-requires
-rest-requires c κs = search needs
+mul-part : tie.Need-mul-part
+mul-part c = omega (arith, ends c)
+
+part-requires : tie.Need-part-requires
+part-requires c κs = search needs
 
 in-range-requires : tie.Need-in-range-requires
 in-range-requires c κs =
     let z = c .before .before .before .record-size in
     let a = c .before .before .before .before .before .args in
-    (z .ensures .1 .0, records-room (z .result) pending-most (a .s .now) (a .at) (first (c .before)) _ (count (c .before)) _ (c .rest .ensures))
+    let f = c .before in
+    (z .ensures .1 .0, omega (arith, records-room (z .result) pending-most (a .s .now) (a .at) (first f) (f .before .listed .result .count) (count f) (now (c .part .result)) (c .part .ensures)))
 
 unreadable-requires-2 : tie.Need-unreadable-requires-2
 unreadable-requires-2 c κs = search needs
@@ -148,8 +155,9 @@ read-tables-spec =
     listed-requires
     unreadable-requires
     returns
-    add-rest
-    rest-requires
+    add-part
+    mul-part
+    part-requires
     in-range-requires
     unreadable-requires-2
     returns-2
