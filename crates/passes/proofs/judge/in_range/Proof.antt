@@ -1,6 +1,5 @@
 -- `passes::judge::in_range` meets its contract: the two fields that are in range or not. Assumes nothing.
 use mathlib.Core.Path.{sym, _∙_}
-use native.Mathlib.Omega.{arith}
 use denote.Ref.{now}
 use Rattle.passes.proofs.Tests.{fields-in-range}
 use borrow.Author.Needs.{needs}

@@ -1,9 +1,8 @@
 -- `passes::judge::judge_pending` meets its contract: the table first, then the ranges of its records. Assumes nothing.
-use mathlib.Core.Path.{_≡_, sym, ap, ap₂, _∙_}
+use mathlib.Core.Path.{_≡_, sym, ap₂, _∙_}
 use mathlib.Core.Bool.{true, _&&_}
 use mathlib.Core.List.{List, map}
 use Prim.Native.Nat.{ℕ}
-use native.Mathlib.Omega.{arith}
 use denote.Ref.{now}
 use Rattle.rules.specs.Lists.{every}
 use Rattle.rules.specs.Records.{records, sound-table}
