@@ -1,6 +1,6 @@
 -- `history::read::take_in` meets its contract: each capacity is compared with its number of records, and a file that fits is stored. Assumes nothing.
 use mathlib.Core.Path.{_≡_, ap, _∙_}
-use Prim.Native.Nat.{ℕ, _≤_}
+use Prim.Native.Nat.{ℕ}
 use native.Mathlib.Omega.{arith}
 use denote.Ref.{now}
 use Rattle.rules.specs.Board.{board-of, pending-most}

@@ -1,6 +1,5 @@
 -- `parse::reader::number` meets its contract: the number of the part that is taken. Assumes nothing.
 use mathlib.Core.Path.{_∙_}
-use Prim.Native.Nat.{_≤_}
 use native.Mathlib.Omega.{arith}
 use denote.Ref.{now}
 use Rattle.parse.proofs.Taken.{number-taken, long-taken}

@@ -1,9 +1,8 @@
 -- `parse::tables::listed` meets its contract: each return is one reason why a table is not there, or its number. Assumes nothing.
-use mathlib.Core.Path.{_≡_, sym, ap, _∙_}
+use mathlib.Core.Path.{sym, ap, _∙_}
 use Prim.Native.Nat.{ℕ, _*_, _≤_}
 use native.Mathlib.Nat.{mul-le-mul-right}
 use native.Mathlib.Omega.{arith}
-use Rattle.mem.specs.Le.{le-at}
 use Rattle.parse.proofs.Listed.{has-many, has-short, has-yes, never}
 use borrow.Author.Needs.{needs}
 use Rattle.parse.proofs.tables.listed.Statement.{statement}

@@ -13,7 +13,7 @@ use Rattle.rules.specs.Records.{records}
 use Rattle.rules.specs.Board.{in-range, pending-of, pending-most, confirmed-size, confirmed-most}
 use Rattle.mem.specs.Le.{le-at}
 use Rattle.format.specs.Parts.{bad}
-use Rattle.format.specs.File.{Version, version-told}
+use Rattle.format.specs.File.{Version}
 use Rattle.parse.specs.Places.{has-table}
 use Rattle.parse.specs.Says.{tables-say}
 use Rattle.parse.specs.declared.tables.Sizes.{Sizes}
