@@ -1,80 +1,72 @@
-// The estimates, and the sums of the memory.
-use crate::replies::Ran;
+// The calls that change nothing. A line that is long is put into the buffer.
+use crate::edits::fill;
+use crate::limits::LAST_TARGET;
+use crate::lines::least;
+use crate::ops::Ask;
 use crate::replies::Reply;
-use crate::replies::number;
-use crate::replies::say_number;
+use crate::replies::estimated;
 use kinds::Blocks;
 use kinds::Estimated;
 use kinds::Last;
 use kinds::State;
+use kinds::WriteAnswer;
 use print::put_byte;
 use print::put_decimal;
 use print::put_hex;
 use script::sums::sum_bytes;
 use script::sums::sum_doubles;
 
-// estimate
-pub(crate) fn estimate(state: State, confirmed: &[f64], resolved: &[f64], target: Blocks) -> Ran {
-    let e = estimator::estimate(state, confirmed, resolved, target);
-    match e {
-        Estimated::Damaged => number(1, state),
-        Estimated::NoRate => Ran {
-            reply: Reply::NoRate,
-            state,
-        },
-        Estimated::Rate(r) => Ran {
-            reply: Reply::Rate(r.0),
-            state,
-        },
-    }
-}
-
 // The word for one target: a rate or `-`.
-fn say_target(e: Estimated, out: &mut [u8], at: usize) -> usize {
+fn put_target(e: Estimated, out: &mut [u8], at: usize) -> usize {
     match e {
         Estimated::Rate(r) => put_decimal(out, at, r.0),
         _ => put_byte(out, at, b'-'),
     }
 }
 
-// The words for targets 2 to 25, each with a space before it.
-fn say_later(
-    state: State,
-    confirmed: &[f64],
-    resolved: &[f64],
-    out: &mut [u8],
-    from: usize,
-) -> usize {
-    let mut at = from;
-    let mut t: u32 = 2;
-    while t < 26 {
-        at = put_byte(out, at, b' ');
-        let e = estimator::estimate(state, confirmed, resolved, Blocks(t));
-        at = say_target(e, out, at);
+// The words for all targets, a space after each but the last, and the end of the line.
+fn put_targets(state: State, confirmed: &[f64], resolved: &[f64], out: &mut [u8]) -> usize {
+    let mut at = 0;
+    let mut t: u32 = 0;
+    while t < LAST_TARGET {
         t += 1;
+        let e = estimator::estimate(state, confirmed, resolved, Blocks(t));
+        at = put_target(e, out, at);
+        at = put_byte(out, at, if t < LAST_TARGET { b' ' } else { b'\n' });
     }
-    put_byte(out, at, b'\n')
+    at
 }
 
 // estimates
-pub(crate) fn say_targets(
-    state: State,
-    confirmed: &[f64],
-    resolved: &[f64],
-    out: &mut [u8],
-    at: usize,
-) -> usize {
+fn estimates(state: State, confirmed: &[f64], resolved: &[f64], buffer: &mut [u8]) -> Reply {
     let e = estimator::estimate(state, confirmed, resolved, Blocks(1));
     match e {
-        Estimated::Damaged => say_number(1, out, at),
-        _ => {
-            let at = say_target(e, out, at);
-            say_later(state, confirmed, resolved, out, at)
-        }
+        Estimated::Damaged => estimated(e),
+        _ => Reply::Text(put_targets(state, confirmed, resolved, buffer)),
     }
 }
 
-fn say_last(last: Last, out: &mut [u8], at: usize) -> usize {
+// write, into as many bytes as the buffer has.
+fn write(
+    state: State,
+    pending: &[u8],
+    recent: &[u8],
+    confirmed: &[f64],
+    resolved: &[f64],
+    buffer: &mut [u8],
+) -> Reply {
+    fill(buffer, 0xaa);
+    let r = estimator::to_history_bytes(state, confirmed, resolved, pending, recent, buffer);
+    let answer = r.answer;
+    let n = r.len;
+    match answer {
+        WriteAnswer::Done => Reply::Wrote(n, sum_bytes(buffer)),
+        WriteAnswer::Damaged => Reply::Number(answer.number() as u64),
+        WriteAnswer::ShortOutput(needed) => Reply::Carrying(answer.number() as u64, needed as u64),
+    }
+}
+
+fn put_last(last: Last, out: &mut [u8], at: usize) -> usize {
     match last {
         Last::Nothing => put_byte(out, at, b'-'),
         Last::At(h) => put_decimal(out, at, h.0 as u64),
@@ -82,9 +74,9 @@ fn say_last(last: Last, out: &mut [u8], at: usize) -> usize {
 }
 
 // The state: the last height or `-`, and the used numbers.
-fn say_state(state: State, out: &mut [u8], at: usize) -> usize {
+fn put_state(state: State, out: &mut [u8]) -> usize {
     let last = state.last;
-    let at = say_last(last, out, at);
+    let at = put_last(last, out, 0);
     let at = put_byte(out, at, b' ');
     let at = put_decimal(out, at, state.pending as u64);
     let at = put_byte(out, at, b' ');
@@ -92,25 +84,52 @@ fn say_state(state: State, out: &mut [u8], at: usize) -> usize {
 }
 
 // A space and a sum.
-fn say_sum(sum: u32, out: &mut [u8], at: usize) -> usize {
+fn put_sum(sum: u32, out: &mut [u8], at: usize) -> usize {
     let at = put_byte(out, at, b' ');
     put_hex(out, at, sum)
 }
 
 // sum
-pub(crate) fn say_sums(
+fn sums(
     state: State,
     pending: &[u8],
     recent: &[u8],
     confirmed: &[f64],
     resolved: &[f64],
     out: &mut [u8],
-    at: usize,
-) -> usize {
-    let at = say_state(state, out, at);
-    let at = say_sum(sum_bytes(pending), out, at);
-    let at = say_sum(sum_bytes(recent), out, at);
-    let at = say_sum(sum_doubles(confirmed), out, at);
-    let at = say_sum(sum_doubles(resolved), out, at);
-    put_byte(out, at, b'\n')
+) -> Reply {
+    let at = put_state(state, out);
+    let at = put_sum(sum_bytes(pending), out, at);
+    let at = put_sum(sum_bytes(recent), out, at);
+    let at = put_sum(sum_doubles(confirmed), out, at);
+    let at = put_sum(sum_doubles(resolved), out, at);
+    Reply::Text(put_byte(out, at, b'\n'))
+}
+
+// Any of them.
+pub(crate) fn tell(
+    a: Ask,
+    state: State,
+    pending: &[u8],
+    recent: &[u8],
+    confirmed: &[f64],
+    resolved: &[f64],
+    buffer: &mut [u8],
+) -> Reply {
+    match a {
+        Ask::Estimate(t) => estimated(estimator::estimate(state, confirmed, resolved, t)),
+        Ask::Estimates => estimates(state, confirmed, resolved, buffer),
+        Ask::Write(len) => {
+            let end = least(len, buffer.len());
+            write(
+                state,
+                pending,
+                recent,
+                confirmed,
+                resolved,
+                &mut buffer[0..end],
+            )
+        }
+        Ask::Sum => sums(state, pending, recent, confirmed, resolved, buffer),
+    }
 }

@@ -1,4 +1,8 @@
 // What a line is answered with.
+use crate::lines::front;
+use crate::ops::Lent;
+use kinds::Estimated;
+use kinds::FeeRate;
 use kinds::State;
 use print::put;
 use print::put_byte;
@@ -10,15 +14,18 @@ pub(crate) enum Reply {
     Bad,
     // Nothing is written.
     Silent,
+    // Nothing is written, and this much memory is lent from now on.
+    Lent(Lent),
+    // The number of an answer, or a bucket.
     Number(u64),
-    Numbers(u64, u64),
+    // The number of an answer, and what it carries.
+    Carrying(u64, u64),
     NoRate,
-    Rate(u64),
+    Rate(FeeRate),
     // An accepted write: the length, and the sum of the whole buffer.
-    Wrote(u64, u32),
-    // The line is made from the memory afterwards.
-    Targets,
-    Sums,
+    Wrote(usize, u32),
+    // So many bytes of the buffer.
+    Text(usize),
 }
 
 // A reply, and the state after it.
@@ -27,24 +34,20 @@ pub(crate) struct Ran {
     pub state: State,
 }
 
-pub(crate) fn bad(state: State) -> Ran {
+// The reply of an answer that carries nothing.
+pub(crate) fn numbered(n: u32, state: State) -> Ran {
     Ran {
-        reply: Reply::Bad,
+        reply: Reply::Number(n as u64),
         state,
     }
 }
 
-pub(crate) fn silent(state: State) -> Ran {
-    Ran {
-        reply: Reply::Silent,
-        state,
-    }
-}
-
-pub(crate) fn number(n: u64, state: State) -> Ran {
-    Ran {
-        reply: Reply::Number(n),
-        state,
+// The reply of an estimate.
+pub(crate) fn estimated(e: Estimated) -> Reply {
+    match e {
+        Estimated::Damaged => Reply::Number(e.number() as u64),
+        Estimated::NoRate => Reply::NoRate,
+        Estimated::Rate(r) => Reply::Rate(r),
     }
 }
 
@@ -55,32 +58,36 @@ pub(crate) fn say_number(n: u64, out: &mut [u8], at: usize) -> usize {
 }
 
 // Two numbers.
-fn say_numbers(n: u64, m: u64, out: &mut [u8], at: usize) -> usize {
+fn say_carrying(n: u64, m: u64, out: &mut [u8], at: usize) -> usize {
     let at = put_decimal(out, at, n);
     let at = put_byte(out, at, b' ');
     say_number(m, out, at)
 }
 
-// The sum that comes after a length.
-fn say_wrote(n: u64, sum: u32, out: &mut [u8], at: usize) -> usize {
+// A rate.
+fn say_rate(rate: FeeRate, out: &mut [u8], at: usize) -> usize {
+    let at = put(out, at, b"rate ");
+    say_number(rate.0, out, at)
+}
+
+// The length of a history, and the sum of its buffer.
+fn say_wrote(n: usize, sum: u32, out: &mut [u8], at: usize) -> usize {
     let at = put(out, at, b"0 ");
-    let at = put_decimal(out, at, n);
+    let at = put_decimal(out, at, n as u64);
     let at = put_byte(out, at, b' ');
     let at = put_hex(out, at, sum);
     put_byte(out, at, b'\n')
 }
 
-// The line that a reply says, but for the lines that are made from the memory.
-pub(crate) fn say(reply: Reply, out: &mut [u8], at: usize) -> usize {
+// The line that a reply says, where the text that it may name is in the buffer.
+pub(crate) fn say(reply: Reply, buffer: &[u8], out: &mut [u8], at: usize) -> usize {
     match reply {
         Reply::Number(n) => say_number(n, out, at),
-        Reply::Numbers(n, m) => say_numbers(n, m, out, at),
+        Reply::Carrying(n, m) => say_carrying(n, m, out, at),
         Reply::NoRate => put(out, at, b"none\n"),
-        Reply::Rate(r) => {
-            let at = put(out, at, b"rate ");
-            say_number(r, out, at)
-        }
+        Reply::Rate(r) => say_rate(r, out, at),
         Reply::Wrote(n, sum) => say_wrote(n, sum, out, at),
+        Reply::Text(n) => put(out, at, front(buffer, n)),
         _ => at,
     }
 }

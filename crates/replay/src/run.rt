@@ -1,197 +1,264 @@
-// An operation, over the memory as it is lent.
-use crate::asks::estimate;
-use crate::calls::connect;
-use crate::calls::enter;
-use crate::calls::leave;
-use crate::calls::list_ids;
-use crate::calls::start;
-use crate::damage::put_bytes;
-use crate::damage::put_count;
-use crate::files::decode;
-use crate::files::front;
-use crate::files::read;
-use crate::files::write;
-use crate::ops::Ask;
-use crate::ops::Call;
-use crate::ops::Damage;
+// A script, line by line.
+use crate::asks::tell;
+use crate::calls::change;
+use crate::edits::lay;
+use crate::lines::Line;
+use crate::lines::front;
+use crate::lines::least;
+use crate::lines::next_line;
+use crate::ops::Lent;
 use crate::ops::Op;
-use crate::ops::Source;
 use crate::replies::Ran;
 use crate::replies::Reply;
-use crate::replies::bad;
-use crate::replies::number;
-use crate::replies::silent;
-use kinds::Height;
+use crate::replies::say;
+use crate::replies::say_number;
 use kinds::State;
+use libc::STDOUT_FILENO;
 use print::put;
-use script::hex::Decoded;
-ghost use Prim.Native.Nat.{_≤_};
 
-pub(crate) fn least(a: usize, b: usize) -> usize
-    ensures { λ r. ⌜ (r ≤ a) × (r ≤ b) ⌝ }
-{
-    if a < b { a } else { b }
-}
-
-// Damage.
-fn run_damage(
-    d: Damage,
+// What a run keeps between two lines.
+struct Progress {
+    // The first `lend` was there.
+    begun: bool,
+    // A line did not fit.
+    bad: bool,
+    lent: Lent,
     state: State,
-    line: &[u8],
-    pending: &mut [u8],
-    recent: &mut [u8],
-    confirmed: &mut [f64],
-    resolved: &mut [f64],
-) -> Ran {
-    match d {
-        Damage::Pending(at, hex) => put_bytes(state, line, at, hex, pending),
-        Damage::Recent(at, hex) => put_bytes(state, line, at, hex, recent),
-        Damage::Confirmed(at, bits) => put_count(state, at, bits, confirmed),
-        Damage::Resolved(at, bits) => put_count(state, at, bits, resolved),
-        Damage::Becomes(after) => silent(after),
+    // Where the next line begins.
+    next: usize,
+    // The length of the history that the last accepted `write` wrote.
+    kept: usize,
+    // How much of the output buffer is used.
+    at: usize,
+}
+
+fn fresh() -> Progress {
+    let lent = Lent {
+        pending: 0,
+        recent: 0,
+        confirmed: 0,
+        resolved: 0,
+    };
+    Progress {
+        begun: false,
+        bad: false,
+        lent,
+        state: State::empty(),
+        next: 0,
+        kept: 0,
+        at: 0,
     }
 }
 
-fn run_call(
-    c: Call,
-    state: State,
-    line: &[u8],
-    pending: &mut [u8],
-    recent: &mut [u8],
-    confirmed: &mut [f64],
-    resolved: &mut [f64],
-) -> Ran {
-    match c {
-        Call::Start => start(state, pending, recent, confirmed, resolved),
-        Call::Enter(id, rate, height) => enter(state, line, id, rate, height, pending),
-        Call::Leave(id) => leave(state, line, id, pending),
-    }
-}
-
-fn run_ask(a: Ask, state: State, confirmed: &[f64], resolved: &[f64]) -> Ran {
-    match a {
-        Ask::Estimate(target) => estimate(state, confirmed, resolved, target),
-        Ask::Bucket(rate) => number(estimator::bucket_index_for_rate(rate) as u64, state),
-        Ask::Estimates => Ran {
-            reply: Reply::Targets,
-            state,
-        },
-        Ask::Sum => Ran {
-            reply: Reply::Sums,
-            state,
-        },
-    }
-}
-
-// The bytes that a source names are put into scratch. Of what is kept, the first n bytes are.
-fn gather(from: Source, line: &[u8], kept: &[u8], n: usize, scratch: &mut [u8]) -> Decoded {
-    match from {
-        Source::Ids(at) => list_ids(line, at, scratch),
-        Source::Digits(hex) => decode(line, hex, scratch),
-        Source::Kept => {
-            put(scratch, 0, front(kept, n));
-            Decoded::Bytes(n)
-        }
-    }
-}
-
-// The same for the operations that have a source.
-fn gather_for(op: Op, line: &[u8], kept: &[u8], n: usize, scratch: &mut [u8]) -> Decoded {
-    match op {
-        Op::Block(_, from) => gather(from, line, kept, n, scratch),
-        Op::Read(from) => gather(from, line, kept, n, scratch),
-        _ => Decoded::Bytes(0),
-    }
-}
-
-// An operation, with its bytes gathered.
-fn run_with(
+// An operation over the memory as it is lent, with n bytes of the buffer.
+fn operate(
     op: Op,
     state: State,
-    line: &[u8],
-    bytes: &[u8],
-    pending: &mut [u8],
-    recent: &mut [u8],
-    confirmed: &mut [f64],
-    resolved: &mut [f64],
-) -> Ran {
-    match op {
-        Op::Harm(d) => run_damage(d, state, line, pending, recent, confirmed, resolved),
-        Op::Change(c) => run_call(c, state, line, pending, recent, confirmed, resolved),
-        Op::Block(height, _) => connect(state, height, bytes, pending, recent, confirmed, resolved),
-        Op::Read(_) => read(state, bytes, pending, recent, confirmed, resolved),
-        Op::Tell(a) => run_ask(a, state, confirmed, resolved),
-        Op::Nothing => silent(state),
-        _ => bad(state),
-    }
-}
-
-// Any operation but `write`: `n` is the length of the history that is kept.
-fn run_gathered(
-    op: Op,
-    state: State,
-    line: &[u8],
     n: usize,
     pending: &mut [u8],
     recent: &mut [u8],
     confirmed: &mut [f64],
     resolved: &mut [f64],
-    scratch: &mut [u8],
-    kept: &[u8],
+    buffer: &mut [u8],
 ) -> Ran {
-    let found = gather_for(op, line, kept, n, scratch);
-    match found {
-        Decoded::Bytes(k) => run_with(
-            op,
+    match op {
+        Op::Tell(a) => Ran {
+            reply: tell(a, state, pending, recent, confirmed, resolved, buffer),
             state,
-            line,
-            front(scratch, k),
+        },
+        Op::Change(c) => change(
+            c,
+            state,
+            front(buffer, n),
             pending,
             recent,
             confirmed,
             resolved,
         ),
-        Decoded::Bad => bad(state),
+        Op::Lay(e) => lay(
+            e,
+            state,
+            front(buffer, n),
+            pending,
+            recent,
+            confirmed,
+            resolved,
+        ),
+        Op::Answered(reply) => Ran { reply, state },
     }
 }
 
-// Any operation.
-pub(crate) fn run_op(
+// An operation, over as much memory as is lent.
+fn operate_on_lent(
     op: Op,
-    state: State,
-    line: &[u8],
+    r: Progress,
     n: usize,
     pending: &mut [u8],
     recent: &mut [u8],
     confirmed: &mut [f64],
     resolved: &mut [f64],
-    scratch: &mut [u8],
+    buffer: &mut [u8],
+) -> Ran {
+    let lent = r.lent;
+    let state = r.state;
+    let p = least(lent.pending, pending.len());
+    let q = least(lent.recent, recent.len());
+    let a = least(lent.confirmed, confirmed.len());
+    let b = least(lent.resolved, resolved.len());
+    operate(
+        op,
+        state,
+        n,
+        &mut pending[0..p],
+        &mut recent[0..q],
+        &mut confirmed[0..a],
+        &mut resolved[0..b],
+        buffer,
+    )
+}
+
+// What a reply leaves in the run.
+fn keep(mut r: Progress, reply: Reply, buffer: &[u8], kept: &mut [u8]) -> Progress {
+    match reply {
+        Reply::Bad => {
+            r.bad = true;
+            r
+        }
+        Reply::Lent(lent) => {
+            r.begun = true;
+            r.lent = lent;
+            r
+        }
+        Reply::Wrote(n, _) => {
+            put(kept, 0, front(buffer, n));
+            r.kept = n;
+            r
+        }
+        _ => r,
+    }
+}
+
+// One line, whose bytes are in the buffer.
+fn run_line(
+    mut r: Progress,
+    line: Line,
+    pending: &mut [u8],
+    recent: &mut [u8],
+    confirmed: &mut [f64],
+    resolved: &mut [f64],
+    buffer: &mut [u8],
     kept: &mut [u8],
-) -> Ran {
-    match op {
-        Op::Write(len) => {
-            let end = least(len, scratch.len());
-            write(
-                state,
-                pending,
-                recent,
-                confirmed,
-                resolved,
-                &mut scratch[0..end],
-                kept,
-            )
+    out: &mut [u8],
+) -> Progress {
+    let op = line.op;
+    let ran = operate_on_lent(
+        op,
+        r,
+        line.bytes,
+        pending,
+        recent,
+        confirmed,
+        resolved,
+        buffer,
+    );
+    let reply = ran.reply;
+    let state = ran.state;
+    r.state = state;
+    r.next = line.next;
+    r.at = say(reply, buffer, out, room(r.at, out));
+    keep(r, reply, buffer, kept)
+}
+
+// The next line of the script.
+fn turn(
+    r: Progress,
+    script: &[u8],
+    pending: &mut [u8],
+    recent: &mut [u8],
+    confirmed: &mut [f64],
+    resolved: &mut [f64],
+    buffer: &mut [u8],
+    kept: &mut [u8],
+    out: &mut [u8],
+) -> Progress {
+    let line = next_line(script, r.next, r.begun, kept, r.kept, buffer);
+    run_line(
+        r,
+        line,
+        pending,
+        recent,
+        confirmed,
+        resolved,
+        buffer,
+        kept,
+        out,
+    )
+}
+
+// Writes out what the buffer holds, up to `at`.
+fn flush(at: usize, out: &[u8]) {
+    let n = least(at, out.len());
+    io::write_all(STDOUT_FILENO, &out[0..n]);
+}
+
+// A cursor with room for one more line.
+fn room(at: usize, out: &[u8]) -> usize {
+    let n = least(at, out.len());
+    if out.len() - n < 1024 {
+        flush(n, out);
+        return 0;
+    }
+    n
+}
+
+// Whether there is a line to run.
+fn going(r: Progress, script: &[u8]) -> bool {
+    if r.bad {
+        return false;
+    }
+    r.next < script.len()
+}
+
+// The end of a run: a line that does not fit is told by its number.
+fn finish(r: Progress, lines: usize, out: &mut [u8]) {
+    if r.bad {
+        let at = put(out, room(r.at, out), b"bad line ");
+        let end = say_number(lines as u64, out, at);
+        flush(end, out);
+    } else {
+        flush(r.at, out);
+    }
+}
+
+// A whole script. A line has one byte at least, so there are no more lines than bytes.
+pub(crate) fn run(
+    script: &[u8],
+    pending: &mut [u8],
+    recent: &mut [u8],
+    confirmed: &mut [f64],
+    resolved: &mut [f64],
+    buffer: &mut [u8],
+    kept: &mut [u8],
+    out: &mut [u8],
+) {
+    let mut r = fresh();
+    let mut lines = 0;
+    while lines < script.len() {
+        if !going(r, script) {
+            break;
         }
-        _ => run_gathered(
-            op,
-            state,
-            line,
-            n,
+        lines += 1;
+        r = turn(
+            r,
+            script,
             pending,
             recent,
             confirmed,
             resolved,
-            scratch,
+            buffer,
             kept,
-        ),
+            out,
+        );
     }
+    finish(r, lines, out);
 }

@@ -1,11 +1,11 @@
--- `replay::damage::fill` is safe and ends: the slice keeps its length.
+-- `replay::edits::fill` is safe and ends: the slice keeps its length.
 -- Assumes nothing.
 use mathlib.Core.Path.{_≡_}
 use Prim.Native.Nat.{_-_}
 use native.Mathlib.Omega.{arith}
 use lib.ListN.{length, length-set}
-use Rattle.replay.proofs.damage.fill.Statement.{statement}
-use Rattle.replay.proofs.damage.fill.Tie as tie
+use Rattle.replay.proofs.edits.fill.Statement.{statement}
+use Rattle.replay.proofs.edits.fill.Tie as tie
 
 abbrev Inv-loop : tie.InvT-loop
 Inv-loop s₀ v i₀ s i = length s ≡ length s₀

@@ -1,23 +1,23 @@
--- `replay::session::run` is safe and ends: there are no more turns than bytes, and every slice keeps its length.
+-- `replay::run::run` is safe and ends: there are no more turns than bytes, and every slice keeps its length.
 -- Assumes nothing.
 use mathlib.Core.Path.{_≡_, refl, _∙_}
 use Prim.Native.Nat.{_-_, _≤_}
 use native.Mathlib.Omega.{arith}
 use borrow.Author.Needs.{needs}
 use lib.ListN.{length}
-use Rattle.replay.proofs.session.run.Statement.{statement}
-use Rattle.replay.proofs.session.run.Tie as tie
+use Rattle.replay.proofs.run.run.Statement.{statement}
+use Rattle.replay.proofs.run.run.Tie as tie
 
 abbrev Inv-loop : tie.InvT-loop
-Inv-loop script pending₀ recent₀ confirmed₀ resolved₀ scratch₀ kept₀ out₀ r₀ lines₀ pending recent confirmed resolved scratch kept out r lines =
+Inv-loop script pending₀ recent₀ confirmed₀ resolved₀ buffer₀ kept₀ out₀ r₀ lines₀ pending recent confirmed resolved buffer kept out r lines =
     (lines ≤ length script)
     × ((length pending ≡ length pending₀)
     × ((length recent ≡ length recent₀)
     × ((length confirmed ≡ length confirmed₀)
-    × ((length resolved ≡ length resolved₀) × ((length scratch ≡ length scratch₀) × ((length kept ≡ length kept₀) × (length out ≡ length out₀)))))))
+    × ((length resolved ≡ length resolved₀) × ((length buffer ≡ length buffer₀) × ((length kept ≡ length kept₀) × (length out ≡ length out₀)))))))
 
 abbrev μ-loop : tie.MeasureT-loop
-μ-loop script pending₀ recent₀ confirmed₀ resolved₀ scratch₀ kept₀ out₀ r₀ lines₀ pending recent confirmed resolved scratch kept out r lines =
+μ-loop script pending₀ recent₀ confirmed₀ resolved₀ buffer₀ kept₀ out₀ r₀ lines₀ pending recent confirmed resolved buffer kept out r lines =
     length script - lines
 
 fresh-requires : tie.Need-fresh-requires Inv-loop μ-loop

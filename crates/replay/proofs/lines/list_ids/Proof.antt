@@ -1,18 +1,18 @@
--- `replay::calls::list_ids` is safe and ends: a turn puts one id more, of at most 4,096.
+-- `replay::lines::list_ids` is safe and ends: a turn puts one id more, of at most 4,096.
 -- Assumes nothing.
 use mathlib.Core.Path.{_≡_, refl}
 use Prim.Native.Nat.{_-_, _≤_}
 use native.Mathlib.Omega.{arith}
 use borrow.Author.Needs.{needs}
 use lib.ListN.{length}
-use Rattle.replay.proofs.calls.list_ids.Statement.{statement}
-use Rattle.replay.proofs.calls.list_ids.Tie as tie
+use Rattle.replay.proofs.lines.list_ids.Statement.{statement}
+use Rattle.replay.proofs.lines.list_ids.Tie as tie
 
 abbrev Inv-loop : tie.InvT-loop
-Inv-loop line at list₀ from₀ k₀ list from k = (k ≤ 4096) × (length list ≡ length list₀)
+Inv-loop line at buffer₀ from₀ k₀ buffer from k = (k ≤ 4096) × (length buffer ≡ length buffer₀)
 
 abbrev μ-loop : tie.MeasureT-loop
-μ-loop line at list₀ from₀ k₀ list from k = 4096 - k
+μ-loop line at buffer₀ from₀ k₀ buffer from k = 4096 - k
 
 loop-holds : tie.Need-loop-holds Inv-loop μ-loop
 loop-holds c = (omega arith, refl)

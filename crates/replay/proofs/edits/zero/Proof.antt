@@ -1,11 +1,11 @@
--- `replay::damage::zero` is safe and ends: the slice keeps its length.
+-- `replay::edits::zero` is safe and ends: the slice keeps its length.
 -- Assumes nothing.
 use mathlib.Core.Path.{_≡_}
 use Prim.Native.Nat.{_-_}
 use native.Mathlib.Omega.{arith}
 use lib.ListN.{length, length-set}
-use Rattle.replay.proofs.damage.zero.Statement.{statement}
-use Rattle.replay.proofs.damage.zero.Tie as tie
+use Rattle.replay.proofs.edits.zero.Statement.{statement}
+use Rattle.replay.proofs.edits.zero.Tie as tie
 
 abbrev Inv-loop : tie.InvT-loop
 Inv-loop s₀ i₀ s i = length s ≡ length s₀
