@@ -2,14 +2,19 @@
 use crate::edits::fill;
 use crate::limits::LAST_TARGET;
 use crate::lines::least;
-use crate::ops::Ask;
-use crate::replies::Reply;
+use crate::ops::Name;
+use crate::replies::Ran;
+use crate::replies::Said;
 use crate::replies::estimated;
+use crate::replies::numbered;
+use crate::replies::reply;
+use crate::words::low32;
 use kinds::Blocks;
 use kinds::Estimated;
 use kinds::Last;
 use kinds::State;
 use kinds::WriteAnswer;
+use kinds::Written;
 use print::put_byte;
 use print::put_decimal;
 use print::put_hex;
@@ -38,11 +43,36 @@ fn put_targets(state: State, confirmed: &[f64], resolved: &[f64], out: &mut [u8]
 }
 
 // estimates
-fn estimates(state: State, confirmed: &[f64], resolved: &[f64], buffer: &mut [u8]) -> Reply {
+fn estimates(state: State, confirmed: &[f64], resolved: &[f64], buffer: &mut [u8]) -> Ran {
     let e = estimator::estimate(state, confirmed, resolved, Blocks(1));
     match e {
-        Estimated::Damaged => estimated(e),
-        _ => Reply::Text(put_targets(state, confirmed, resolved, buffer)),
+        Estimated::Damaged => estimated(e, state),
+        _ => {
+            let n = put_targets(state, confirmed, resolved, buffer);
+            reply(Said::Text, n as u64, state)
+        }
+    }
+}
+
+// The reply of a write, where all that it was written into has this sum.
+fn written(w: Written, sum: u32) -> Ran {
+    let answer = w.answer;
+    let n = w.len;
+    let state = w.state;
+    match answer {
+        WriteAnswer::Done => Ran {
+            said: Said::Wrote,
+            n: n as u64,
+            m: sum as u64,
+            state,
+        },
+        WriteAnswer::Damaged => numbered(answer.number(), state),
+        WriteAnswer::ShortOutput(needed) => Ran {
+            said: Said::Carrying,
+            n: answer.number() as u64,
+            m: needed as u64,
+            state,
+        },
     }
 }
 
@@ -54,18 +84,13 @@ fn write(
     confirmed: &[f64],
     resolved: &[f64],
     buffer: &mut [u8],
-) -> Reply {
+) -> Ran {
     fill(buffer, 0xaa);
-    let r = estimator::to_history_bytes(state, confirmed, resolved, pending, recent, buffer);
-    let answer = r.answer;
-    let n = r.len;
-    match answer {
-        WriteAnswer::Done => Reply::Wrote(n, sum_bytes(buffer)),
-        WriteAnswer::Damaged => Reply::Number(answer.number() as u64),
-        WriteAnswer::ShortOutput(needed) => Reply::Carrying(answer.number() as u64, needed as u64),
-    }
+    let w = estimator::to_history_bytes(state, confirmed, resolved, pending, recent, buffer);
+    written(w, sum_bytes(buffer))
 }
 
+// The last height or `-`.
 fn put_last(last: Last, out: &mut [u8], at: usize) -> usize {
     match last {
         Last::Nothing => put_byte(out, at, b'-'),
@@ -97,30 +122,34 @@ fn sums(
     confirmed: &[f64],
     resolved: &[f64],
     out: &mut [u8],
-) -> Reply {
+) -> usize {
     let at = put_state(state, out);
     let at = put_sum(sum_bytes(pending), out, at);
     let at = put_sum(sum_bytes(recent), out, at);
     let at = put_sum(sum_doubles(confirmed), out, at);
     let at = put_sum(sum_doubles(resolved), out, at);
-    Reply::Text(put_byte(out, at, b'\n'))
+    put_byte(out, at, b'\n')
 }
 
-// Any of them.
+// Any of them, with its number.
 pub(crate) fn tell(
-    a: Ask,
+    name: Name,
+    a: u64,
     state: State,
     pending: &[u8],
     recent: &[u8],
     confirmed: &[f64],
     resolved: &[f64],
     buffer: &mut [u8],
-) -> Reply {
-    match a {
-        Ask::Estimate(t) => estimated(estimator::estimate(state, confirmed, resolved, t)),
-        Ask::Estimates => estimates(state, confirmed, resolved, buffer),
-        Ask::Write(len) => {
-            let end = least(len, buffer.len());
+) -> Ran {
+    match name {
+        Name::Estimate => {
+            let e = estimator::estimate(state, confirmed, resolved, Blocks(low32(a)));
+            estimated(e, state)
+        }
+        Name::Estimates => estimates(state, confirmed, resolved, buffer),
+        Name::Write => {
+            let end = least(a as usize, buffer.len());
             write(
                 state,
                 pending,
@@ -130,6 +159,9 @@ pub(crate) fn tell(
                 &mut buffer[0..end],
             )
         }
-        Ask::Sum => sums(state, pending, recent, confirmed, resolved, buffer),
+        _ => {
+            let n = sums(state, pending, recent, confirmed, resolved, buffer);
+            reply(Said::Text, n as u64, state)
+        }
     }
 }

@@ -1,8 +1,9 @@
 // The calls that change the estimator.
-use crate::ops::Call;
+use crate::ops::Name;
 use crate::replies::Ran;
-use crate::replies::Reply;
+use crate::replies::Said;
 use crate::replies::numbered;
+use crate::words::low32;
 use kinds::FeeRate;
 use kinds::Height;
 use kinds::ID_SIZE;
@@ -53,16 +54,20 @@ fn reading(r: Reading, before: State) -> Ran {
     match answer {
         ReadAnswer::Done => numbered(answer.number(), after),
         ReadAnswer::UnknownVersion(v) => Ran {
-            reply: Reply::Carrying(answer.number() as u64, v as u64),
+            said: Said::Carrying,
+            n: answer.number() as u64,
+            m: v as u64,
             state: before,
         },
         _ => numbered(answer.number(), before),
     }
 }
 
-// Any of them, with its bytes: an id, a list of ids, or a history.
+// Any of them, with its numbers and its bytes: an id, a list of ids, or a history.
 pub(crate) fn change(
-    c: Call,
+    name: Name,
+    a: u64,
+    b: u64,
     state: State,
     text: &[u8],
     pending: &mut [u8],
@@ -70,11 +75,15 @@ pub(crate) fn change(
     confirmed: &mut [f64],
     resolved: &mut [f64],
 ) -> Ran {
-    match c {
-        Call::Start => started(estimator::new(confirmed, resolved, pending, recent), state),
-        Call::Enter(rate, height) => enter(state, text, rate, height, pending),
-        Call::Leave => leave(state, text, pending),
-        Call::Block(height) => {
+    match name {
+        Name::Enter => enter(state, text, FeeRate(a), Height(low32(b)), pending),
+        Name::Leave => leave(state, text, pending),
+        Name::Start => {
+            let r = estimator::new(confirmed, resolved, pending, recent);
+            started(r, state)
+        }
+        Name::Block | Name::RawBlock => {
+            let height = Height(low32(a));
             let r = estimator::block_connected(
                 state,
                 confirmed,
@@ -87,9 +96,9 @@ pub(crate) fn change(
             let answer = r.answer;
             numbered(answer.number(), r.state)
         }
-        Call::Read => reading(
-            estimator::from_history_bytes(text, confirmed, resolved, pending, recent),
-            state,
-        ),
+        _ => {
+            let r = estimator::from_history_bytes(text, confirmed, resolved, pending, recent);
+            reading(r, state)
+        }
     }
 }

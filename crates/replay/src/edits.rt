@@ -1,8 +1,6 @@
 // What is done to the lent memory itself.
-use crate::ops::Edit;
-use crate::replies::Ran;
-use crate::replies::Reply;
-use kinds::State;
+use crate::ops::Name;
+use crate::replies::Said;
 use print::put;
 use script::sums::double_of;
 
@@ -25,21 +23,21 @@ fn zero(s: &mut [f64]) {
 }
 
 // byte: what is put is never empty, so the cursor stays only where there is no room.
-fn put_bytes(table: &mut [u8], at: usize, text: &[u8]) -> Reply {
+fn put_bytes(table: &mut [u8], at: usize, text: &[u8]) -> Said {
     if put(table, at, text) == at {
-        Reply::Bad
+        Said::Bad
     } else {
-        Reply::Silent
+        Said::Silent
     }
 }
 
 // count
-fn put_count(counts: &mut [f64], at: usize, bits: u64) -> Reply {
+fn put_count(counts: &mut [f64], at: usize, bits: u64) -> Said {
     if at < counts.len() {
         counts[at] = double_of(bits);
-        return Reply::Silent;
+        return Said::Silent;
     }
-    Reply::Bad
+    Said::Bad
 }
 
 // lend: what was lent becomes zero. Nothing beyond it was ever anything else.
@@ -50,43 +48,25 @@ fn clear(pending: &mut [u8], recent: &mut [u8], confirmed: &mut [f64], resolved:
     zero(resolved);
 }
 
-// Any of them, over the memory as it is lent.
+// Any of them, with its numbers, over the memory as it is lent.
 pub(crate) fn lay(
-    e: Edit,
-    state: State,
+    name: Name,
+    a: u64,
+    b: u64,
     text: &[u8],
     pending: &mut [u8],
     recent: &mut [u8],
     confirmed: &mut [f64],
     resolved: &mut [f64],
-) -> Ran {
-    match e {
-        Edit::Lend(lent) => {
+) -> Said {
+    match name {
+        Name::BytePending => put_bytes(pending, a as usize, text),
+        Name::ByteConfirmed => put_bytes(recent, a as usize, text),
+        Name::CountConfirmed => put_count(confirmed, a as usize, b),
+        Name::CountResolved => put_count(resolved, a as usize, b),
+        _ => {
             clear(pending, recent, confirmed, resolved);
-            Ran {
-                reply: Reply::Lent(lent),
-                state: State::empty(),
-            }
+            Said::Lent
         }
-        Edit::Becomes(after) => Ran {
-            reply: Reply::Silent,
-            state: after,
-        },
-        Edit::Pending(at) => Ran {
-            reply: put_bytes(pending, at, text),
-            state,
-        },
-        Edit::Recent(at) => Ran {
-            reply: put_bytes(recent, at, text),
-            state,
-        },
-        Edit::Confirmed(at, bits) => Ran {
-            reply: put_count(confirmed, at, bits),
-            state,
-        },
-        Edit::Resolved(at, bits) => Ran {
-            reply: put_count(resolved, at, bits),
-            state,
-        },
     }
 }

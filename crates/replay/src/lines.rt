@@ -1,21 +1,27 @@
 // The next line of a script: its operation, with the bytes that the operation works on in a buffer.
+use crate::limits::MOST_HISTORY;
 use crate::limits::MOST_IDS;
-use crate::ops::Op;
-use crate::ops::Source;
+use crate::ops::Asked;
+use crate::ops::Name;
+use crate::ops::unfit;
 use crate::parse::parse;
-use crate::replies::Reply;
 use crate::words::text;
 use kinds::ID_SIZE;
 use print::put;
 use script::hex::Decoded;
 use script::hex::hex_into;
 use script::hex::id_in;
+use script::words::Word;
 use script::words::word_at;
 ghost use Prim.Native.Nat.{_≤_};
 
 // A line: its operation, how many bytes of the buffer belong to it, and where the next line begins.
 pub(crate) struct Line {
-    pub op: Op,
+    pub name: Name,
+    pub a: u64,
+    pub b: u64,
+    pub c: u64,
+    pub d: u64,
     pub bytes: usize,
     pub next: usize,
 }
@@ -71,30 +77,48 @@ fn take_kept(kept: &[u8], n: usize, buffer: &mut [u8]) -> Decoded {
     Decoded::Bytes(n)
 }
 
-// Puts the bytes that a source names into the buffer. Of what is kept these are the first n.
-fn gather(from: Source, line: &[u8], kept: &[u8], n: usize, buffer: &mut [u8]) -> Decoded {
-    match from {
-        Source::Nothing => Decoded::Bytes(0),
-        Source::Digits(w, most) => decode(text(line, w), most, buffer),
-        Source::Ids(at) => list_ids(line, at, buffer),
-        Source::Kept => take_kept(kept, n, buffer),
+// Puts the bytes that a word says into the buffer, or none for `-`.
+fn decode_any(word: &[u8], buffer: &mut [u8]) -> Decoded {
+    if check::same(word, b"-") {
+        return Decoded::Bytes(0);
+    }
+    decode(word, MOST_HISTORY, buffer)
+}
+
+// Puts the bytes that an operation works on into the buffer. Of what is kept these are the first n.
+fn gather(x: Asked, line: &[u8], kept: &[u8], n: usize, buffer: &mut [u8]) -> Decoded {
+    let name = x.name;
+    let word = Word {
+        from: x.from,
+        to: x.to,
+    };
+    match name {
+        Name::Unfit => Decoded::Bad,
+        Name::BytePending | Name::ByteConfirmed => decode(text(line, word), MOST_HISTORY, buffer),
+        Name::Enter | Name::Leave => decode(text(line, word), ID_SIZE, buffer),
+        Name::RawBlock | Name::Read => decode_any(text(line, word), buffer),
+        Name::Block => list_ids(line, x.from, buffer),
+        Name::Again => take_kept(kept, n, buffer),
+        _ => Decoded::Bytes(0),
     }
 }
 
 // A line that does not fit.
 fn bad_line(next: usize) -> Line {
-    Line {
-        op: Op::Answered(Reply::Bad),
-        bytes: 0,
-        next,
-    }
+    gathered(unfit(), 0, next)
 }
 
-// The line of an operation whose bytes are gathered, where the line after it begins at `next`.
-fn gathered(op: Op, found: Decoded, next: usize) -> Line {
-    match found {
-        Decoded::Bytes(bytes) => Line { op, bytes, next },
-        Decoded::Bad => bad_line(next),
+// The line of an operation with so many bytes gathered, where the line after it begins at `next`.
+fn gathered(x: Asked, bytes: usize, next: usize) -> Line {
+    let name = x.name;
+    Line {
+        name,
+        a: x.a,
+        b: x.b,
+        c: x.c,
+        d: x.d,
+        bytes,
+        next,
     }
 }
 
@@ -107,10 +131,12 @@ fn line_of(
     n: usize,
     buffer: &mut [u8],
 ) -> Line {
-    let parsed = parse(line, begun);
-    let op = parsed.op;
-    let from = parsed.from;
-    gathered(op, gather(from, line, kept, n, buffer), next)
+    let x = parse(line, begun);
+    let found = gather(x, line, kept, n, buffer);
+    match found {
+        Decoded::Bytes(k) => gathered(x, k, next),
+        Decoded::Bad => bad_line(next),
+    }
 }
 
 // The line of a script that begins at `at`. Without its LF it does not fit.

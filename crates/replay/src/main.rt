@@ -15,6 +15,7 @@ mod limits;
 mod lines;
 mod ops;
 mod parse;
+mod progress;
 mod replies;
 mod run;
 mod words;

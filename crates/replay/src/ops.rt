@@ -1,67 +1,68 @@
-// What a line of a script asks for.
-use crate::replies::Reply;
-use kinds::Blocks;
-use kinds::FeeRate;
-use kinds::Height;
-use kinds::State;
-use script::words::Word;
+// What a line of a script asks for, in numbers: a value that is small costs little to hand on.
 
-// How much of each table, in bytes, and of each list of counts is lent.
-pub(crate) struct Lent {
-    pub pending: usize,
-    pub recent: usize,
-    pub confirmed: usize,
-    pub resolved: usize,
-}
-
-// What is done to the memory or the state itself: memory is lent anew, the state becomes another, bytes are put at a place of a table, a count becomes a pattern.
-pub(crate) enum Edit {
-    Lend(Lent),
-    Becomes(State),
-    Pending(usize),
-    Recent(usize),
-    Confirmed(usize, u64),
-    Resolved(usize, u64),
-}
-
-// The calls that change the estimator.
-pub(crate) enum Call {
+// What an operation does, by its first word and, where a table or counts are named, by the second.
+pub(crate) enum Name {
+    // The line does not fit.
+    Unfit,
+    PassedOver,
+    Lend,
+    State,
+    BytePending,
+    ByteConfirmed,
+    CountConfirmed,
+    CountResolved,
     Start,
-    Enter(FeeRate, Height),
+    Enter,
     Leave,
-    Block(Height),
+    Block,
+    RawBlock,
     Read,
-}
-
-// The calls that do not.
-pub(crate) enum Ask {
-    Estimate(Blocks),
+    Again,
+    Estimate,
     Estimates,
-    Write(usize),
+    Bucket,
+    Write,
     Sum,
 }
 
-pub(crate) enum Op {
-    // What needs no memory is answered already.
-    Answered(Reply),
-    Lay(Edit),
-    Change(Call),
-    Tell(Ask),
+// An operation: its numbers in the order of the line, and from where to where the digits or the ids stand in it.
+pub(crate) struct Asked {
+    pub name: Name,
+    pub a: u64,
+    pub b: u64,
+    pub c: u64,
+    pub d: u64,
+    pub from: usize,
+    pub to: usize,
 }
 
-// Where the bytes that an operation works on come from.
-pub(crate) enum Source {
-    Nothing,
-    // The pairs of digits of a word, for so many bytes at most, and not none.
-    Digits(Word, usize),
-    // The ids from a place of the line on.
-    Ids(usize),
-    // The history that was written last.
-    Kept,
+// An operation without digits.
+pub(crate) fn plain(name: Name, a: u64, b: u64, c: u64, d: u64) -> Asked {
+    Asked {
+        name,
+        a,
+        b,
+        c,
+        d,
+        from: 0,
+        to: 0,
+    }
 }
 
-// An operation, and where its bytes come from.
-pub(crate) struct Parsed {
-    pub op: Op,
-    pub from: Source,
+// An operation with digits or ids.
+pub(crate) fn worded(name: Name, a: u64, b: u64, from: usize, to: usize) -> Asked {
+    Asked {
+        name,
+        a,
+        b,
+        c: 0,
+        d: 0,
+        from,
+        to,
+    }
+}
+
+// A line that does not fit.
+pub(crate) fn unfit() -> Asked {
+    plain(Name::Unfit, 0, 0, 0, 0)
 }

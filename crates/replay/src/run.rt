@@ -6,109 +6,144 @@ use crate::lines::Line;
 use crate::lines::front;
 use crate::lines::least;
 use crate::lines::next_line;
-use crate::ops::Lent;
-use crate::ops::Op;
+use crate::ops::Name;
+use crate::progress::Progress;
+use crate::progress::finish;
+use crate::progress::fresh;
+use crate::progress::going;
+use crate::progress::tell_reply;
 use crate::replies::Ran;
-use crate::replies::Reply;
-use crate::replies::say;
-use crate::replies::say_number;
+use crate::replies::Said;
+use crate::replies::reply;
+use crate::words::low32;
+use kinds::FeeRate;
+use kinds::Height;
+use kinds::Last;
 use kinds::State;
-use libc::STDOUT_FILENO;
-use print::put;
 
-// What a run keeps between two lines.
-struct Progress {
-    // The first `lend` was there.
-    begun: bool,
-    // A line did not fit.
-    bad: bool,
-    lent: Lent,
-    state: State,
-    // Where the next line begins.
-    next: usize,
-    // The length of the history that the last accepted `write` wrote.
-    kept: usize,
-    // How much of the output buffer is used.
-    at: usize,
+// Which function an operation is for.
+enum Group {
+    Lay,
+    Change,
+    Tell,
+    Other,
 }
 
-fn fresh() -> Progress {
-    let lent = Lent {
-        pending: 0,
-        recent: 0,
-        confirmed: 0,
-        resolved: 0,
-    };
-    Progress {
-        begun: false,
-        bad: false,
-        lent,
-        state: State::empty(),
-        next: 0,
-        kept: 0,
-        at: 0,
+// The function that an operation is for.
+fn group_of(name: Name) -> Group {
+    match name {
+        Name::Lend | Name::BytePending | Name::ByteConfirmed => Group::Lay,
+        Name::CountConfirmed | Name::CountResolved => Group::Lay,
+        Name::Start | Name::Enter | Name::Leave => Group::Change,
+        Name::Block | Name::RawBlock | Name::Read | Name::Again => Group::Change,
+        Name::Estimate | Name::Estimates | Name::Write | Name::Sum => Group::Tell,
+        _ => Group::Other,
     }
 }
 
-// An operation over the memory as it is lent, with n bytes of the buffer.
+// A last height plus 1, or 0 for none.
+fn last(n: u64) -> Last {
+    if n == 0 {
+        return Last::Nothing;
+    }
+    Last::At(Height(low32(n - 1)))
+}
+
+// The operations that need no memory.
+fn without_memory(line: Line, state: State) -> Ran {
+    let name = line.name;
+    match name {
+        Name::Unfit => reply(Said::Bad, 0, state),
+        Name::State => {
+            let after = State {
+                last: last(line.a),
+                pending: line.b as usize,
+                recent: line.c as usize,
+            };
+            reply(Said::Silent, 0, after)
+        }
+        Name::Bucket => {
+            let b = estimator::bucket_index_for_rate(FeeRate(line.a));
+            reply(Said::Number, b as u64, state)
+        }
+        _ => reply(Said::Silent, 0, state),
+    }
+}
+
+// An operation over the memory as it is lent.
 fn operate(
-    op: Op,
+    line: Line,
     state: State,
-    n: usize,
     pending: &mut [u8],
     recent: &mut [u8],
     confirmed: &mut [f64],
     resolved: &mut [f64],
     buffer: &mut [u8],
 ) -> Ran {
-    match op {
-        Op::Tell(a) => Ran {
-            reply: tell(a, state, pending, recent, confirmed, resolved, buffer),
+    let name = line.name;
+    let n = line.bytes;
+    let of = group_of(name);
+    match of {
+        Group::Lay => {
+            let text = front(buffer, n);
+            let said = lay(
+                name,
+                line.a,
+                line.b,
+                text,
+                pending,
+                recent,
+                confirmed,
+                resolved,
+            );
+            reply(said, 0, state)
+        }
+        Group::Change => {
+            let text = front(buffer, n);
+            change(
+                name,
+                line.a,
+                line.b,
+                state,
+                text,
+                pending,
+                recent,
+                confirmed,
+                resolved,
+            )
+        }
+        Group::Tell => tell(
+            name,
+            line.a,
             state,
-        },
-        Op::Change(c) => change(
-            c,
-            state,
-            front(buffer, n),
             pending,
             recent,
             confirmed,
             resolved,
+            buffer,
         ),
-        Op::Lay(e) => lay(
-            e,
-            state,
-            front(buffer, n),
-            pending,
-            recent,
-            confirmed,
-            resolved,
-        ),
-        Op::Answered(reply) => Ran { reply, state },
+        Group::Other => without_memory(line, state),
     }
 }
 
 // An operation, over as much memory as is lent.
 fn operate_on_lent(
-    op: Op,
     r: Progress,
-    n: usize,
+    line: Line,
     pending: &mut [u8],
     recent: &mut [u8],
     confirmed: &mut [f64],
     resolved: &mut [f64],
     buffer: &mut [u8],
 ) -> Ran {
-    let lent = r.lent;
     let state = r.state;
-    let p = least(lent.pending, pending.len());
-    let q = least(lent.recent, recent.len());
-    let a = least(lent.confirmed, confirmed.len());
-    let b = least(lent.resolved, resolved.len());
+    let p = least(r.pending, pending.len());
+    let q = least(r.recent, recent.len());
+    let a = least(r.confirmed, confirmed.len());
+    let b = least(r.resolved, resolved.len());
     operate(
-        op,
+        line,
         state,
-        n,
         &mut pending[0..p],
         &mut recent[0..q],
         &mut confirmed[0..a],
@@ -117,30 +152,9 @@ fn operate_on_lent(
     )
 }
 
-// What a reply leaves in the run.
-fn keep(mut r: Progress, reply: Reply, buffer: &[u8], kept: &mut [u8]) -> Progress {
-    match reply {
-        Reply::Bad => {
-            r.bad = true;
-            r
-        }
-        Reply::Lent(lent) => {
-            r.begun = true;
-            r.lent = lent;
-            r
-        }
-        Reply::Wrote(n, _) => {
-            put(kept, 0, front(buffer, n));
-            r.kept = n;
-            r
-        }
-        _ => r,
-    }
-}
-
 // One line, whose bytes are in the buffer.
 fn run_line(
-    mut r: Progress,
+    r: Progress,
     line: Line,
     pending: &mut [u8],
     recent: &mut [u8],
@@ -150,23 +164,8 @@ fn run_line(
     kept: &mut [u8],
     out: &mut [u8],
 ) -> Progress {
-    let op = line.op;
-    let ran = operate_on_lent(
-        op,
-        r,
-        line.bytes,
-        pending,
-        recent,
-        confirmed,
-        resolved,
-        buffer,
-    );
-    let reply = ran.reply;
-    let state = ran.state;
-    r.state = state;
-    r.next = line.next;
-    r.at = say(reply, buffer, out, room(r.at, out));
-    keep(r, reply, buffer, kept)
+    let ran = operate_on_lent(r, line, pending, recent, confirmed, resolved, buffer);
+    tell_reply(r, line, ran, buffer, kept, out)
 }
 
 // The next line of the script.
@@ -193,41 +192,6 @@ fn turn(
         kept,
         out,
     )
-}
-
-// Writes out what the buffer holds, up to `at`.
-fn flush(at: usize, out: &[u8]) {
-    let n = least(at, out.len());
-    io::write_all(STDOUT_FILENO, &out[0..n]);
-}
-
-// A cursor with room for one more line.
-fn room(at: usize, out: &[u8]) -> usize {
-    let n = least(at, out.len());
-    if out.len() - n < 1024 {
-        flush(n, out);
-        return 0;
-    }
-    n
-}
-
-// Whether there is a line to run.
-fn going(r: Progress, script: &[u8]) -> bool {
-    if r.bad {
-        return false;
-    }
-    r.next < script.len()
-}
-
-// The end of a run: a line that does not fit is told by its number.
-fn finish(r: Progress, lines: usize, out: &mut [u8]) {
-    if r.bad {
-        let at = put(out, room(r.at, out), b"bad line ");
-        let end = say_number(lines as u64, out, at);
-        flush(end, out);
-    } else {
-        flush(r.at, out);
-    }
 }
 
 // A whole script. A line has one byte at least, so there are no more lines than bytes.

@@ -1,11 +1,10 @@
 // The words of a line, taken one after the other.
-use crate::ops::Op;
-use crate::ops::Parsed;
-use crate::ops::Source;
-use crate::replies::Reply;
+use crate::ops::Asked;
+use crate::ops::unfit;
 use script::hex::pattern_in;
 use script::numbers::Number;
 use script::numbers::number_in;
+use script::sums::NAN_BITS;
 use script::words::Word;
 use script::words::word_at;
 
@@ -14,6 +13,11 @@ pub(crate) struct Taken {
     pub at: usize,
     pub fits: bool,
     pub value: u64,
+}
+
+// A number as one of 32 bits.
+pub(crate) fn low32(n: u64) -> u32 {
+    (n % 4294967296) as u32
 }
 
 // The bytes of a word.
@@ -56,9 +60,6 @@ pub(crate) fn number(line: &[u8], t: Taken, most: u64) -> Taken {
     behind(t, w, number_in(text(line, w), 10, most))
 }
 
-// The bits of a NaN.
-const NAN_BITS: u64 = 9221120237041090560;
-
 // Takes a bit pattern; `nan` is that of a NaN.
 pub(crate) fn pattern(line: &[u8], t: Taken) -> Taken {
     let w = word_at(line, t.at);
@@ -69,17 +70,9 @@ pub(crate) fn pattern(line: &[u8], t: Taken) -> Taken {
 }
 
 // The operation, if all words fit and none follows.
-pub(crate) fn ended(line: &[u8], t: Taken, op: Op, from: Source) -> Parsed {
+pub(crate) fn ended(line: &[u8], t: Taken, x: Asked) -> Asked {
     if t.fits && line.len() < t.at {
-        return Parsed { op, from };
+        return x;
     }
-    answered(Reply::Bad)
-}
-
-// A line that needs no memory, and its reply.
-pub(crate) fn answered(reply: Reply) -> Parsed {
-    Parsed {
-        op: Op::Answered(reply),
-        from: Source::Nothing,
-    }
+    unfit()
 }
