@@ -1,11 +1,14 @@
 """Every script that is compared, kind by kind."""
 
+import re
+
 import edges
 import exhaustive
 import flavours
 import page
+import worked
 
-KINDS = ["fixed", "exhaustive", "random"]
+KINDS = ["fixed", "worked", "exhaustive", "random"]
 
 
 def scripts(kind, seed, count):
@@ -13,7 +16,15 @@ def scripts(kind, seed, count):
     if kind == "fixed":
         yield from edges.scripts()
         yield from page.scripts()
+    elif kind == "worked":
+        yield from worked.scripts()
     elif kind == "exhaustive":
         yield from ((name, text, None) for name, text in exhaustive.scripts())
     else:
         yield from ((*flavours.script(seed, number), None) for number in range(1, count + 1))
+
+
+def titled(kind, seed, count):
+    """The same scripts under titles that are fit for a file's name."""
+    for number, (name, text, answers) in enumerate(scripts(kind, seed, count), start=1):
+        yield re.sub(r"[^A-Za-z0-9]+", "-", f"{kind} {number} {name}").strip("-")[:60], text, answers

@@ -5,7 +5,7 @@ ghost use mathlib.Core.List.{[], _∷_};
 ghost use Rattle.print.specs.Page.{page, write};
 ghost use Rattle.print.specs.Numerals.{decimal, hex8};
 
-// The byte b.
+// Puts the byte b.
 pub fn put_byte(out: &mut [u8], at: usize, b: u8) -> usize
     ensures { λ r. ⌜ page (now (out .exit)) r ≡ write (b ∷ []) (page (now (out .entry)) at) ⌝ }
 {
@@ -16,7 +16,7 @@ pub fn put_byte(out: &mut [u8], at: usize, b: u8) -> usize
     at
 }
 
-// The bytes of text.
+// Puts the bytes of text.
 pub fn put(out: &mut [u8], at: usize, text: &[u8]) -> usize
     ensures { λ r. ⌜ page (now (out .exit)) r ≡ write (now (text .entry)) (page (now (out .entry)) at) ⌝ }
 {
@@ -30,7 +30,7 @@ pub fn put(out: &mut [u8], at: usize, text: &[u8]) -> usize
     at + n
 }
 
-// The decimal digits of n.
+// Puts the decimal digits of n.
 pub fn put_decimal(out: &mut [u8], at: usize, n: u64) -> usize
     ensures { λ r. ⌜ page (now (out .exit)) r ≡ write (decimal n) (page (now (out .entry)) at) ⌝ }
 {
@@ -39,7 +39,7 @@ pub fn put_decimal(out: &mut [u8], at: usize, n: u64) -> usize
     put(out, at, &text[..k])
 }
 
-// The eight hexadecimal digits of n, in lower case.
+// Puts the eight hexadecimal digits of n, in lower case.
 pub fn put_hex(out: &mut [u8], at: usize, n: u32) -> usize
     ensures { λ r. ⌜ page (now (out .exit)) r ≡ write (hex8 n) (page (now (out .entry)) at) ⌝ }
 {

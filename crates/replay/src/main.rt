@@ -1,37 +1,46 @@
-// Runs a script on standard input over memory of its own, and writes what each line is answered with.
+// Runs a script on standard input over memory of its own, and writes what each line is answered with. A line is parsed into an operation by value, its bytes
+// are put into a buffer, and the call is made over the memory as it is lent.
 use libc::STDIN_FILENO;
 use libc::STDOUT_FILENO;
+use limits::MOST_COUNTS;
+use limits::MOST_HISTORY;
+use limits::MOST_PENDING;
+use limits::MOST_RECENT;
+use limits::MOST_SCRIPT;
 
 mod asks;
 mod calls;
-mod damage;
-mod files;
+mod edits;
+mod limits;
+mod lines;
 mod ops;
+mod parse;
+mod progress;
 mod replies;
 mod run;
-mod session;
+mod words;
 
 fn main() {
-    let mut script = [0u8; 2097153];
+    let mut script = [0u8; MOST_SCRIPT + 1];
     let n = io::read_full(STDIN_FILENO, &mut script);
-    if 2097152 < n {
+    if MOST_SCRIPT < n {
         io::write_all(STDOUT_FILENO, b"bad line 0\n");
         return;
     }
-    let mut pending = [0u8; 440100];
-    let mut recent = [0u8; 720100];
-    let mut confirmed = [0.0f64; 3600];
-    let mut resolved = [0.0f64; 3600];
-    let mut scratch = [0u8; 1400000];
-    let mut kept = [0u8; 1400000];
+    let mut pending = [0u8; MOST_PENDING];
+    let mut recent = [0u8; MOST_RECENT];
+    let mut confirmed = [0.0f64; MOST_COUNTS];
+    let mut resolved = [0.0f64; MOST_COUNTS];
+    let mut buffer = [0u8; MOST_HISTORY];
+    let mut kept = [0u8; MOST_HISTORY];
     let mut out = [0u8; 65536];
-    session::run(
+    run::run(
         &script[..n],
         &mut pending,
         &mut recent,
         &mut confirmed,
         &mut resolved,
-        &mut scratch,
+        &mut buffer,
         &mut kept,
         &mut out,
     );

@@ -1,197 +1,228 @@
-// An operation, over the memory as it is lent.
-use crate::asks::estimate;
-use crate::calls::connect;
-use crate::calls::enter;
-use crate::calls::leave;
-use crate::calls::list_ids;
-use crate::calls::start;
-use crate::damage::put_bytes;
-use crate::damage::put_count;
-use crate::files::decode;
-use crate::files::front;
-use crate::files::read;
-use crate::files::write;
-use crate::ops::Ask;
-use crate::ops::Call;
-use crate::ops::Damage;
-use crate::ops::Op;
-use crate::ops::Source;
+// A script, line by line.
+use crate::asks::tell;
+use crate::calls::change;
+use crate::edits::lay;
+use crate::lines::Line;
+use crate::lines::front;
+use crate::lines::least;
+use crate::lines::next_line;
+use crate::ops::Name;
+use crate::progress::Progress;
+use crate::progress::finish;
+use crate::progress::fresh;
+use crate::progress::going;
+use crate::progress::tell_reply;
 use crate::replies::Ran;
-use crate::replies::Reply;
-use crate::replies::bad;
-use crate::replies::number;
-use crate::replies::silent;
+use crate::replies::Said;
+use crate::replies::reply;
+use crate::words::low32;
+use kinds::FeeRate;
 use kinds::Height;
+use kinds::Last;
 use kinds::State;
-use print::put;
-use script::hex::Decoded;
-ghost use Prim.Native.Nat.{_≤_};
 
-pub(crate) fn least(a: usize, b: usize) -> usize
-    ensures { λ r. ⌜ (r ≤ a) × (r ≤ b) ⌝ }
-{
-    if a < b { a } else { b }
+// Which function an operation is for.
+enum Group {
+    Lay,
+    Change,
+    Tell,
+    Other,
 }
 
-// Damage.
-fn run_damage(
-    d: Damage,
-    state: State,
-    line: &[u8],
-    pending: &mut [u8],
-    recent: &mut [u8],
-    confirmed: &mut [f64],
-    resolved: &mut [f64],
-) -> Ran {
-    match d {
-        Damage::Pending(at, hex) => put_bytes(state, line, at, hex, pending),
-        Damage::Recent(at, hex) => put_bytes(state, line, at, hex, recent),
-        Damage::Confirmed(at, bits) => put_count(state, at, bits, confirmed),
-        Damage::Resolved(at, bits) => put_count(state, at, bits, resolved),
-        Damage::Becomes(after) => silent(after),
+// The function that an operation is for.
+fn group_of(name: Name) -> Group {
+    match name {
+        Name::Lend | Name::BytePending | Name::ByteConfirmed => Group::Lay,
+        Name::CountConfirmed | Name::CountResolved => Group::Lay,
+        Name::Start | Name::Enter | Name::Leave => Group::Change,
+        Name::Block | Name::RawBlock | Name::Read | Name::Again => Group::Change,
+        Name::Estimate | Name::Estimates | Name::Write | Name::Sum => Group::Tell,
+        _ => Group::Other,
     }
 }
 
-fn run_call(
-    c: Call,
-    state: State,
-    line: &[u8],
-    pending: &mut [u8],
-    recent: &mut [u8],
-    confirmed: &mut [f64],
-    resolved: &mut [f64],
-) -> Ran {
-    match c {
-        Call::Start => start(state, pending, recent, confirmed, resolved),
-        Call::Enter(id, rate, height) => enter(state, line, id, rate, height, pending),
-        Call::Leave(id) => leave(state, line, id, pending),
+// A last height plus 1, or 0 for none.
+fn last(n: u64) -> Last {
+    if n == 0 {
+        return Last::Nothing;
     }
+    Last::At(Height(low32(n - 1)))
 }
 
-fn run_ask(a: Ask, state: State, confirmed: &[f64], resolved: &[f64]) -> Ran {
-    match a {
-        Ask::Estimate(target) => estimate(state, confirmed, resolved, target),
-        Ask::Bucket(rate) => number(estimator::bucket_index_for_rate(rate) as u64, state),
-        Ask::Estimates => Ran {
-            reply: Reply::Targets,
-            state,
-        },
-        Ask::Sum => Ran {
-            reply: Reply::Sums,
-            state,
-        },
-    }
-}
-
-// The bytes that a source names are put into scratch. Of what is kept, the first n bytes are.
-fn gather(from: Source, line: &[u8], kept: &[u8], n: usize, scratch: &mut [u8]) -> Decoded {
-    match from {
-        Source::Ids(at) => list_ids(line, at, scratch),
-        Source::Digits(hex) => decode(line, hex, scratch),
-        Source::Kept => {
-            put(scratch, 0, front(kept, n));
-            Decoded::Bytes(n)
+// The operations that need no memory.
+fn without_memory(line: Line, state: State) -> Ran {
+    let name = line.name;
+    match name {
+        Name::Unfit => reply(Said::Bad, 0, state),
+        Name::State => {
+            let after = State {
+                last: last(line.a),
+                pending: line.b as usize,
+                recent: line.c as usize,
+            };
+            reply(Said::Silent, 0, after)
         }
+        Name::Bucket => {
+            let b = estimator::bucket_index_for_rate(FeeRate(line.a));
+            reply(Said::Number, b as u64, state)
+        }
+        _ => reply(Said::Silent, 0, state),
     }
 }
 
-// The same for the operations that have a source.
-fn gather_for(op: Op, line: &[u8], kept: &[u8], n: usize, scratch: &mut [u8]) -> Decoded {
-    match op {
-        Op::Block(_, from) => gather(from, line, kept, n, scratch),
-        Op::Read(from) => gather(from, line, kept, n, scratch),
-        _ => Decoded::Bytes(0),
-    }
-}
-
-// An operation, with its bytes gathered.
-fn run_with(
-    op: Op,
+// An operation over the memory as it is lent.
+fn operate(
+    line: Line,
     state: State,
-    line: &[u8],
-    bytes: &[u8],
     pending: &mut [u8],
     recent: &mut [u8],
     confirmed: &mut [f64],
     resolved: &mut [f64],
+    buffer: &mut [u8],
 ) -> Ran {
-    match op {
-        Op::Harm(d) => run_damage(d, state, line, pending, recent, confirmed, resolved),
-        Op::Change(c) => run_call(c, state, line, pending, recent, confirmed, resolved),
-        Op::Block(height, _) => connect(state, height, bytes, pending, recent, confirmed, resolved),
-        Op::Read(_) => read(state, bytes, pending, recent, confirmed, resolved),
-        Op::Tell(a) => run_ask(a, state, confirmed, resolved),
-        Op::Nothing => silent(state),
-        _ => bad(state),
-    }
-}
-
-// Any operation but `write`: `n` is the length of the history that is kept.
-fn run_gathered(
-    op: Op,
-    state: State,
-    line: &[u8],
-    n: usize,
-    pending: &mut [u8],
-    recent: &mut [u8],
-    confirmed: &mut [f64],
-    resolved: &mut [f64],
-    scratch: &mut [u8],
-    kept: &[u8],
-) -> Ran {
-    let found = gather_for(op, line, kept, n, scratch);
-    match found {
-        Decoded::Bytes(k) => run_with(
-            op,
-            state,
-            line,
-            front(scratch, k),
-            pending,
-            recent,
-            confirmed,
-            resolved,
-        ),
-        Decoded::Bad => bad(state),
-    }
-}
-
-// Any operation.
-pub(crate) fn run_op(
-    op: Op,
-    state: State,
-    line: &[u8],
-    n: usize,
-    pending: &mut [u8],
-    recent: &mut [u8],
-    confirmed: &mut [f64],
-    resolved: &mut [f64],
-    scratch: &mut [u8],
-    kept: &mut [u8],
-) -> Ran {
-    match op {
-        Op::Write(len) => {
-            let end = least(len, scratch.len());
-            write(
-                state,
+    let name = line.name;
+    let n = line.bytes;
+    let of = group_of(name);
+    match of {
+        Group::Lay => {
+            let text = front(buffer, n);
+            let said = lay(
+                name,
+                line.a,
+                line.b,
+                text,
                 pending,
                 recent,
                 confirmed,
                 resolved,
-                &mut scratch[0..end],
-                kept,
+            );
+            reply(said, 0, state)
+        }
+        Group::Change => {
+            let text = front(buffer, n);
+            change(
+                name,
+                line.a,
+                line.b,
+                state,
+                text,
+                pending,
+                recent,
+                confirmed,
+                resolved,
             )
         }
-        _ => run_gathered(
-            op,
+        Group::Tell => tell(
+            name,
+            line.a,
             state,
-            line,
-            n,
             pending,
             recent,
             confirmed,
             resolved,
-            scratch,
-            kept,
+            buffer,
         ),
+        Group::Other => without_memory(line, state),
     }
+}
+
+// An operation, over as much memory as is lent.
+fn operate_on_lent(
+    r: Progress,
+    line: Line,
+    pending: &mut [u8],
+    recent: &mut [u8],
+    confirmed: &mut [f64],
+    resolved: &mut [f64],
+    buffer: &mut [u8],
+) -> Ran {
+    let state = r.state;
+    let p = least(r.pending, pending.len());
+    let q = least(r.recent, recent.len());
+    let a = least(r.confirmed, confirmed.len());
+    let b = least(r.resolved, resolved.len());
+    operate(
+        line,
+        state,
+        &mut pending[0..p],
+        &mut recent[0..q],
+        &mut confirmed[0..a],
+        &mut resolved[0..b],
+        buffer,
+    )
+}
+
+// One line, whose bytes are in the buffer.
+fn run_line(
+    r: Progress,
+    line: Line,
+    pending: &mut [u8],
+    recent: &mut [u8],
+    confirmed: &mut [f64],
+    resolved: &mut [f64],
+    buffer: &mut [u8],
+    kept: &mut [u8],
+    out: &mut [u8],
+) -> Progress {
+    let ran = operate_on_lent(r, line, pending, recent, confirmed, resolved, buffer);
+    tell_reply(r, line, ran, buffer, kept, out)
+}
+
+// The next line of the script.
+fn turn(
+    r: Progress,
+    script: &[u8],
+    pending: &mut [u8],
+    recent: &mut [u8],
+    confirmed: &mut [f64],
+    resolved: &mut [f64],
+    buffer: &mut [u8],
+    kept: &mut [u8],
+    out: &mut [u8],
+) -> Progress {
+    let line = next_line(script, r.next, r.begun, kept, r.kept, buffer);
+    run_line(
+        r,
+        line,
+        pending,
+        recent,
+        confirmed,
+        resolved,
+        buffer,
+        kept,
+        out,
+    )
+}
+
+// A whole script. A line has one byte at least, so there are no more lines than bytes.
+pub(crate) fn run(
+    script: &[u8],
+    pending: &mut [u8],
+    recent: &mut [u8],
+    confirmed: &mut [f64],
+    resolved: &mut [f64],
+    buffer: &mut [u8],
+    kept: &mut [u8],
+    out: &mut [u8],
+) {
+    let mut r = fresh();
+    let mut lines = 0;
+    while lines < script.len() {
+        if !going(r, script) {
+            break;
+        }
+        lines += 1;
+        r = turn(
+            r,
+            script,
+            pending,
+            recent,
+            confirmed,
+            resolved,
+            buffer,
+            kept,
+            out,
+        );
+    }
+    finish(r, lines, out);
 }

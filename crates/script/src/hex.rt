@@ -26,7 +26,7 @@ pub fn is_hex(word: &[u8]) -> bool
     true
 }
 
-// The bytes that the pairs say are put first into out.
+// Puts the bytes that the pairs say first into out.
 pub fn unhex(word: &[u8], out: &mut [u8])
     requires { ⌜ (is-hex (now word) ≡ true) × (length (now word) / 2 ≤ length (now out)) ⌝ }
     ensures { λ _. ⌜ now (out .exit) ≡ hex-bytes (now (word .entry)) ++ drop (length (now (word .entry)) / 2) (now (out .entry)) ⌝ }
@@ -47,7 +47,7 @@ pub enum Decoded {
     Bad,
 }
 
-// The bytes that the word says are put first into out, if the word is pairs of digits and out has room for them; else nothing is put.
+// Puts the bytes that the word says first into out, if the word is pairs of digits and out has room for them; else nothing is put.
 pub fn hex_into(word: &[u8], out: &mut [u8]) -> Decoded
     ensures { λ r. ⌜ filled r (now (out .exit)) ≡ hex-into (now (word .entry)) (now (out .entry)) ⌝ }
 {

@@ -3,6 +3,7 @@ ghost use mathlib.Core.Path.{_≡_};
 ghost use Prim.Native.Nat.{_≤_, _<_};
 ghost use Rattle.script.specs.Digits.{digit, number-of};
 
+// A number, if a word is one.
 pub enum Number {
     Is(u64),
     Bad,
@@ -27,6 +28,7 @@ pub fn digit(x: u8) -> u8
     16
 }
 
+// A byte as a number of 64 bits.
 fn wide(x: u8) -> u64
     ensures { λ r. ⌜ r ≡ x ⌝ }
 {

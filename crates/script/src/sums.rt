@@ -5,11 +5,18 @@ ghost use lib.Ieee.{binary64, toBits, ofBits};
 ghost use Rattle.rules.specs.Bytes.{bytes};
 ghost use Rattle.script.specs.Sums.{step, adler, adler32, doubles};
 
+// The bits of infinity, of the sign, and of the NaN.
+const INFINITY_BITS: u64 = 9218868437227405312;
+
+const SIGN_BIT: u64 = 9223372036854775808;
+
+pub const NAN_BITS: u64 = 9221120237041090560;
+
 // The double with these bits, where every pattern of a NaN is the NaN.
 pub fn double_of(bits: u64) -> f64
     ensures { λ r. ⌜ r ≡ ofBits binary64 bits ⌝ }
 {
-    if 9218868437227405312 < bits % 9223372036854775808 {
+    if INFINITY_BITS < bits % SIGN_BIT {
         return 0.0 / 0.0;
     }
     f64::from_bits(bits)
@@ -22,7 +29,7 @@ pub fn bits_of(x: f64) -> u64
     if x == x {
         return f64::to_bits(x);
     }
-    9221120237041090560
+    NAN_BITS
 }
 
 // A sum on the way: both parts are below 65521.
@@ -31,7 +38,7 @@ pub struct Sum {
     pub b: u32,
 }
 
-// One byte more.
+// The sum with the byte x added.
 fn add(s: Sum, x: u8) -> Sum
     requires { ⌜ (s .a < 65521) × (s .b < 65521) ⌝ }
     ensures { λ r. ⌜ (r ≡ step s x) × ((r .a < 65521) × (r .b < 65521)) ⌝ }
@@ -41,7 +48,7 @@ fn add(s: Sum, x: u8) -> Sum
     Sum { a, b }
 }
 
-// The eight bytes of v, the lowest first.
+// The sum with the eight bytes of v added, the lowest first.
 fn add_bits(s: Sum, v: u64) -> Sum
     requires { ⌜ (s .a < 65521) × (s .b < 65521) ⌝ }
     ensures { λ r. ⌜ (r ≡ adler s (bytes 8 v)) × ((r .a < 65521) × (r .b < 65521)) ⌝ }
@@ -57,6 +64,7 @@ fn add_bits(s: Sum, v: u64) -> Sum
     t
 }
 
+// A sum as one number.
 fn total(s: Sum) -> u32
     requires { ⌜ (s .a < 65521) × (s .b < 65521) ⌝ }
     ensures { λ r. ⌜ r ≡ s .b * 65536 + s .a ⌝ }
