@@ -33,24 +33,6 @@ is-done c = sym (ap block-answer (c .enum-told .given .1)) ∙ c .before .before
 abbrev left : tie.After-connect → Lent
 left c = let m = c .connect .last .1 in lent (m .0) (m .1 .0) (m .1 .1 .0) (m .1 .1 .1 .0)
 
-judge-block-requires : tie.Need-judge-block-requires
-judge-block-requires c κs = search needs
-
-enum-told : tie.Need-enum-told
-enum-told c = search needs
-
-same-length : tie.Need-same-length
-same-length c = search needs
-
-same-length-2 : tie.Need-same-length-2
-same-length-2 c = search needs
-
-same-length-3 : tie.Need-same-length-3
-same-length-3 c = search needs
-
-same-length-4 : tie.Need-same-length-4
-same-length-4 c = search needs
-
 returns : tie.Need-returns
 returns c = let s = start (c .before) in block-refusal (board s) (given s) (c .before .judge-block .result) (c .before .judge-block .ensures) (c .match .keys2)
 
@@ -63,18 +45,6 @@ connect-requires c κs =
           (are-bytes (now (s .args .pending)) (λ i. known .before .slice-known3 .given i .fits)) (are-bytes (now (s .args .recent)) (λ i. known .slice-known4 .given i .fits)),
       block-room (board s) (given s) (is-done d),
     )
-
-same-length-5 : tie.Need-same-length-5
-same-length-5 c = search needs
-
-same-length-6 : tie.Need-same-length-6
-same-length-6 c = search needs
-
-same-length-7 : tie.Need-same-length-7
-same-length-7 c = search needs
-
-same-length-8 : tie.Need-same-length-8
-same-length-8 c = search needs
 
 returns-2 : tie.Need-returns-2
 returns-2 c =
@@ -89,16 +59,16 @@ pub block-connected-spec : {M : Type 1} → statement M
 block-connected-spec =
     tie.close
     (tie.spec
-    judge-block-requires
-    enum-told
-    same-length
-    same-length-2
-    same-length-3
-    same-length-4
+    (λ c κs. search needs)
+    (λ c. search needs)
+    (λ c. search needs)
+    (λ c. search needs)
+    (λ c. search needs)
+    (λ c. search needs)
     returns
     connect-requires
-    same-length-5
-    same-length-6
-    same-length-7
-    same-length-8
+    (λ c. search needs)
+    (λ c. search needs)
+    (λ c. search needs)
+    (λ c. search needs)
     returns-2)

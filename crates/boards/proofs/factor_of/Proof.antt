@@ -7,12 +7,6 @@ use Rattle.rules.specs.Board.{board-of}
 use Rattle.boards.proofs.factor_of.Statement.{statement}
 use Rattle.boards.proofs.factor_of.Tie as tie
 
-enum-told : tie.Need-enum-told
-enum-told c = search needs
-
-enum-told-2 : tie.Need-enum-told-2
-enum-told-2 c = search needs
-
 returns : tie.Need-returns
 returns c = decay-is ∙ sym (ap (λ (l : Horizon). board-of l .decay) (c .enum-told .given .1))
 
@@ -20,4 +14,4 @@ returns-2 : tie.Need-returns-2
 returns-2 c = slow-decay-is ∙ sym (ap (λ (l : Horizon). board-of l .decay) (c .enum-told2 .given .1))
 
 pub factor-of-spec : {M : Type 1} → statement M
-factor-of-spec = tie.close (tie.spec enum-told enum-told-2 returns returns-2)
+factor-of-spec = tie.close (tie.spec (λ c. search needs) (λ c. search needs) returns returns-2)

@@ -22,30 +22,12 @@ abbrev μ-loop : tie.MeasureT-loop
 loop-holds : tie.Need-loop-holds Inv-loop μ-loop
 loop-holds c = let s = c .before .before .before .before .before in going-none (board-of (s .args .on)) (board-lawful (s .args .on)) _ _ _ _ (s .pre .0) (s .pre .1)
 
-sub-loop : tie.Need-sub-loop Inv-loop μ-loop
-sub-loop c = omega arith
-
-add-end : tie.Need-add-end Inv-loop μ-loop
-add-end c = omega arith
-
-sub-confirm : tie.Need-sub-confirm Inv-loop μ-loop
-sub-confirm c = omega arith
-
-part-confirm-start : tie.Need-part-confirm-start Inv-loop μ-loop
-part-confirm-start c = omega arith
-
-part-confirm-end : tie.Need-part-confirm-end Inv-loop μ-loop
-part-confirm-end c = omega arith
-
 confirm-requires : tie.Need-confirm-requires Inv-loop μ-loop
 confirm-requires c κs =
     let n = c .before .before .before .before .before in
     let g = n .before .loop in
     let a = n .before .before .before .before .before .before .before .args in
     (g .inv .ready, (room-for-one (board-of (a .on)) (board-lawful (a .on)) _ _ _ _ (g .at) _ _ (g .inv) (n .loop-test .taken), listed-length (now (a .ids)) (g .at) (n .loop-test .taken)))
-
-loop-less : tie.Need-loop-less Inv-loop μ-loop
-loop-less c = omega arith
 
 loop-again : tie.Need-loop-again Inv-loop μ-loop
 loop-again c =
@@ -79,4 +61,4 @@ returns c = let on = c .before .before .before .before .before .before .before .
 
 pub confirm-all-spec : {M : Type 1} → statement M
 confirm-all-spec =
-    tie.close (tie.spec Inv-loop μ-loop loop-holds sub-loop add-end sub-confirm part-confirm-start part-confirm-end confirm-requires loop-less loop-again same-length same-length-2 same-length-3 same-length-4 returns)
+    tie.close (tie.spec Inv-loop μ-loop loop-holds (λ c. omega arith) (λ c. omega arith) (λ c. omega arith) (λ c. omega arith) (λ c. omega arith) confirm-requires (λ c. omega arith) loop-again same-length same-length-2 same-length-3 same-length-4 returns)

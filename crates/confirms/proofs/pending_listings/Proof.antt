@@ -21,39 +21,15 @@ abbrev μ-loop : tie.MeasureT-loop
 loop-holds : tie.Need-loop-holds Inv-loop μ-loop
 loop-holds c = counting-none _ _
 
-sub-loop : tie.Need-sub-loop Inv-loop μ-loop
-sub-loop c = omega arith
-
-add-end : tie.Need-add-end Inv-loop μ-loop
-add-end c = omega arith
-
-sub-is-pending : tie.Need-sub-is-pending Inv-loop μ-loop
-sub-is-pending c = omega arith
-
-part-is-pending-start : tie.Need-part-is-pending-start Inv-loop μ-loop
-part-is-pending-start c = omega arith
-
-part-is-pending-end : tie.Need-part-is-pending-end Inv-loop μ-loop
-part-is-pending-end c = omega arith
-
 is-pending-requires : tie.Need-is-pending-requires Inv-loop μ-loop
 is-pending-requires c κs =
     let s = c .before .before .before .before .before in
     (s .pre, listed-length (now (s .args .ids)) (c .before .before .loop .at) (omega arith))
 
-add-n : tie.Need-add-n Inv-loop μ-loop
-add-n c = omega arith
-
-loop-less : tie.Need-loop-less Inv-loop μ-loop
-loop-less c = omega arith
-
 loop-again : tie.Need-loop-again Inv-loop μ-loop
 loop-again c =
     let g = c .before .before .before .before .loop in
     counting-more _ _ (g .n) _ (g .at) true (g .inv) (omega arith) (sym (c .if1 .taken) ∙ c .before .is-pending .ensures) refl
-
-loop-less-2 : tie.Need-loop-less-2 Inv-loop μ-loop
-loop-less-2 c = omega arith
 
 loop-again-2 : tie.Need-loop-again-2 Inv-loop μ-loop
 loop-again-2 c =
@@ -65,4 +41,4 @@ returns c = counting-all _ _ _ (c .before .loop .at) (c .before .loop .inv) (ome
 
 pub pending-listings-spec : {M : Type 1} → statement M
 pending-listings-spec =
-    tie.close (tie.spec Inv-loop μ-loop loop-holds sub-loop add-end sub-is-pending part-is-pending-start part-is-pending-end is-pending-requires add-n loop-less loop-again loop-less-2 loop-again-2 returns)
+    tie.close (tie.spec Inv-loop μ-loop loop-holds (λ c. omega arith) (λ c. omega arith) (λ c. omega arith) (λ c. omega arith) (λ c. omega arith) is-pending-requires (λ c. omega arith) (λ c. omega arith) loop-again (λ c. omega arith) loop-again-2 returns)

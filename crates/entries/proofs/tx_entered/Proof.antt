@@ -56,17 +56,8 @@ room c =
     let less : g .state .pending < pending-capacity k (g .table) = omega (arith, full-at (c .before), pending-within k (g .state .pending) (g .table) (sound e), c .if2 .left) in
     (less, one-more (k .table .size) (g .state .pending) (g .table) less)
 
-judge-pending-requires : tie.Need-judge-pending-requires
-judge-pending-requires c κs = search needs
-
-same-length : tie.Need-same-length
-same-length c = search needs
-
 returns : tie.Need-returns
 returns c = let s = c .before .before .before .before in enter-damaged (board s) (board-lawful (s .args .on)) (given s) (s .args .rate) (s .args .height) (sym (c .before .judge-pending .ensures) ∙ not-true _ (c .if1 .taken))
-
-record-size-requires : tie.Need-record-size-requires
-record-size-requires c κs = search needs
 
 find-requires : tie.Need-find-requires
 find-requires c κs =
@@ -76,26 +67,11 @@ find-requires c κs =
     let z = c .before .before .record-size .ensures in
     searchable _ _ pending-most (g .state .pending) (g .table) (g .id) (z .0) (omega (arith, z .1)) (pending-table k (g .state .pending) (g .table) (sound e)) (search needs)
 
-enum-told : tie.Need-enum-told
-enum-told c = search needs
-
-enum-known-at : tie.Need-enum-known-at
-enum-known-at c = search needs
-
-capacity-requires : tie.Need-capacity-requires
-capacity-requires c κs = search needs
-
-same-length-2 : tie.Need-same-length-2
-same-length-2 c = search needs
-
 returns-2 : tie.Need-returns-2
 returns-2 c =
     let g = c .before .before .before .before in
     let e = searched g in
     enter-full (board (start e)) (board-lawful (start e .args .on)) (given (start e)) (sound e) (start e .args .rate) (start e .args .height) (g .at .given .0 .0) (gap g) (c .if2 .taken ∙ full-at (c .before))
-
-bucket-index-for-rate-requires : tie.Need-bucket-index-for-rate-requires
-bucket-index-for-rate-requires c κs = search needs
 
 cast-bucket : tie.Need-cast-bucket
 cast-bucket c = omega (arith, c .bucket-index-for-rate .ensures, bucket-lt (start (searched (missed (c .before))) .args .rate .0))
@@ -111,21 +87,12 @@ insert-pending-requires c κs =
 add-with-pending : tie.Need-add-with-pending
 add-with-pending c = omega (arith, room (c .before .before .before .before .before .before))
 
-with-pending-requires : tie.Need-with-pending-requires
-with-pending-requires c κs = search needs
-
-same-length-3 : tie.Need-same-length-3
-same-length-3 c = search needs
-
 returns-3 : tie.Need-returns-3
 returns-3 c =
     let e = c .before .before .before .before .before .before in
     let w = c .enum-told .given in
     let z = c .before .before .before .before .before .record-size .ensures .0 in
     enter-there (board (start e)) (board-lawful (start e .args .on)) (given (start e)) (sound e) (start e .args .rate) (start e .args .height) (w .0 .0) (told _ _ _ _ _ z (c .before .before .find .ensures) (w .1))
-
-same-length-4 : tie.Need-same-length-4
-same-length-4 c = search needs
 
 returns-4 : tie.Need-returns-4
 returns-4 c =
@@ -143,22 +110,22 @@ pub tx-entered-spec : {M : Type 1} → statement M
 tx-entered-spec =
     tie.close
     (tie.spec
-    judge-pending-requires
-    same-length
+    (λ c κs. search needs)
+    (λ c. search needs)
     returns
-    record-size-requires
+    (λ c κs. search needs)
     find-requires
-    enum-told
-    enum-known-at
-    capacity-requires
-    same-length-2
+    (λ c. search needs)
+    (λ c. search needs)
+    (λ c κs. search needs)
+    (λ c. search needs)
     returns-2
-    bucket-index-for-rate-requires
+    (λ c κs. search needs)
     cast-bucket
     insert-pending-requires
     add-with-pending
-    with-pending-requires
-    same-length-3
+    (λ c κs. search needs)
+    (λ c. search needs)
     returns-3
-    same-length-4
+    (λ c. search needs)
     returns-4)

@@ -44,17 +44,8 @@ place c =
     let g = given (start e) in
     in-table _ _ pending-most _ _ _ _ (c .before .before .before .before .before .record-size .ensures .0) (pending-table (board (start e)) (g .state .pending) (g .table) (sound e)) (found c)
 
-judge-pending-requires : tie.Need-judge-pending-requires
-judge-pending-requires c κs = search needs
-
-same-length : tie.Need-same-length
-same-length c = search needs
-
 returns : tie.Need-returns
 returns c = let s = c .before .before .before .before in leave-damaged (board s) (board-lawful (s .args .on)) (given s) (sym (c .before .judge-pending .ensures) ∙ not-true _ (c .if1 .taken))
-
-record-size-requires : tie.Need-record-size-requires
-record-size-requires c κs = search needs
 
 find-requires : tie.Need-find-requires
 find-requires c κs =
@@ -64,23 +55,11 @@ find-requires c κs =
     let z = c .before .before .record-size .ensures in
     searchable _ _ pending-most (g .state .pending) (g .table) (g .id) (z .0) (omega (arith, z .1)) (pending-table k (g .state .pending) (g .table) (sound e)) (search needs)
 
-enum-told : tie.Need-enum-told
-enum-told c = search needs
-
-enum-known-at : tie.Need-enum-known-at
-enum-known-at c = search needs
-
 remove-requires : tie.Need-remove-requires
 remove-requires c κs = place (c .before .before)
 
 sub-with-pending : tie.Need-sub-with-pending
 sub-with-pending c = omega (arith, place (c .before .before .before .before .before) .0)
-
-with-pending-requires : tie.Need-with-pending-requires
-with-pending-requires c κs = search needs
-
-same-length-2 : tie.Need-same-length-2
-same-length-2 c = search needs
 
 returns-2 : tie.Need-returns-2
 returns-2 c =
@@ -88,9 +67,6 @@ returns-2 c =
     let w = c .enum-told .given in
     let z = c .before .before .before .before .before .record-size .ensures .0 in
     leave-absent (board (start e)) (board-lawful (start e .args .on)) (given (start e)) (sound e) (w .0 .0) (told _ _ _ _ _ z (c .before .before .find .ensures) (w .1))
-
-same-length-3 : tie.Need-same-length-3
-same-length-3 c = search needs
 
 returns-3 : tie.Need-returns-3
 returns-3 c =
@@ -105,17 +81,17 @@ pub tx-left-spec : {M : Type 1} → statement M
 tx-left-spec =
     tie.close
     (tie.spec
-    judge-pending-requires
-    same-length
+    (λ c κs. search needs)
+    (λ c. search needs)
     returns
-    record-size-requires
+    (λ c κs. search needs)
     find-requires
-    enum-told
-    enum-known-at
+    (λ c. search needs)
+    (λ c. search needs)
     remove-requires
     sub-with-pending
-    with-pending-requires
-    same-length-2
+    (λ c κs. search needs)
+    (λ c. search needs)
     returns-2
-    same-length-3
+    (λ c. search needs)
     returns-3)

@@ -22,16 +22,10 @@ confirmed-sound c = sym (c .before .sound-counts .ensures) ∙ not-false _ (c .i
 resolved-sound : (c : tie.Else2) → sound-counts (now (start (c .before .before) .args .resolved)) ≡ true
 resolved-sound c = sym (c .before .sound-counts2 .ensures) ∙ not-false _ (c .if2 .left)
 
-sound-counts-requires : tie.Need-sound-counts-requires
-sound-counts-requires c κs = search needs
-
 returns : tie.Need-returns
 returns c =
     let a = c .before .before .before .before .args in
     first-damaged (board-of (a .on)) (a .state) (now (a .confirmed)) (now (a .resolved)) (a .target) (sym (c .before .sound-counts .ensures) ∙ not-true _ (c .if1 .taken))
-
-sound-counts-requires-2 : tie.Need-sound-counts-requires-2
-sound-counts-requires-2 c κs = search needs
 
 returns-2 : tie.Need-returns-2
 returns-2 c =
@@ -44,9 +38,6 @@ returns-3 c =
     let e = c .before .before in
     let a = start (e .before .before) .args in
     no-target (board-of (a .on)) (a .state) (now (a .confirmed)) (now (a .resolved)) (a .target) (confirmed-sound (e .before .before)) (resolved-sound e) (c .if3 .taken)
-
-column-of-requires : tie.Need-column-of-requires
-column-of-requires c κs = search needs
 
 rate-in-column-requires : tie.Need-rate-in-column-requires
 rate-in-column-requires c κs =
@@ -67,11 +58,11 @@ pub estimate-spec : {M : Type 1} → statement M
 estimate-spec =
     tie.close
     (tie.spec
-    sound-counts-requires
+    (λ c κs. search needs)
     returns
-    sound-counts-requires-2
+    (λ c κs. search needs)
     returns-2
     returns-3
-    column-of-requires
+    (λ c κs. search needs)
     rate-in-column-requires
     returns-4)

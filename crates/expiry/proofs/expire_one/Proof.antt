@@ -22,32 +22,17 @@ read-is-that : (n : tie.After-pending-at) → let a = start n .args in
     pending-of (getD (records (n .before .before .record-size .result) (a .used) (now (a .pending))) (a .i) []) ≡ board-of (a .on) .table .read (getD (records (board-of (a .on) .table .size) (a .used) (now (a .pending))) (a .i) [])
 read-is-that n = let a = start n .args in read-at (a .on) (n .before .before .record-size .result) (a .used) (a .i) (now (a .pending)) (n .before .before .record-size .ensures .0)
 
-record-size-requires : tie.Need-record-size-requires
-record-size-requires c κs = search needs
-
-width-of-requires : tie.Need-width-of-requires
-width-of-requires c κs = search needs
-
 pending-at-requires : tie.Need-pending-at-requires
 pending-at-requires c κs =
     let s = c .before .before .before .before in
     let z = c .before .record-size .ensures in
     (z .1, (s .pre .0 .1, subst (λ (n : ℕ). s .args .used * n ≤ length (now (s .args .pending))) (sym (z .0)) (s .pre .0 .2)))
 
-outwaited-requires : tie.Need-outwaited-requires
-outwaited-requires c κs = search needs
-
-cast-count-expiry : tie.Need-cast-count-expiry
-cast-count-expiry c = search needs
-
 count-expiry-requires : tie.Need-count-expiry-requires
 count-expiry-requires c κs =
     let n = c .before .before .before .before in
     let b = n .pending-at .ensures .0 ∙ ap (λ (r : Pending). r .bucket) (read-is-that n) in
     omega (arith, b, c .before .before .outwaited .ensures)
-
-same-length : tie.Need-same-length
-same-length c = search needs
 
 returns : tie.Need-returns
 returns c =
@@ -66,4 +51,4 @@ returns c =
 
 pub expire-one-spec : {M : Type 1} → statement M
 expire-one-spec =
-    tie.close (tie.spec record-size-requires width-of-requires pending-at-requires outwaited-requires cast-count-expiry count-expiry-requires same-length returns)
+    tie.close (tie.spec (λ c κs. search needs) (λ c κs. search needs) pending-at-requires (λ c κs. search needs) (λ c. search needs) count-expiry-requires (λ c. search needs) returns)

@@ -14,30 +14,15 @@ use Rattle.expiry.proofs.Changing.{changed-kept}
 use Rattle.expiry.proofs.expire_pending.Statement.{statement}
 use Rattle.expiry.proofs.expire_pending.Tie as tie
 
-record-size-requires : tie.Need-record-size-requires
-record-size-requires c κs = search needs
-
-width-of-requires : tie.Need-width-of-requires
-width-of-requires c κs = search needs
-
 -- the room for the records, in their bytes as the code has them
 room : (n : tie.After-record-size) → let a = n .before .before .before .args in a .used * n .record-size .result ≤ length (now (a .pending))
 room n = let s = n .before .before .before in subst (λ (m : ℕ). s .args .used * m ≤ length (now (s .args .pending))) (sym (n .record-size .ensures .0)) (s .pre .0 .1)
-
-expire-targets-requires : tie.Need-expire-targets-requires
-expire-targets-requires c κs = search needs
 
 raise-through-requires : tie.Need-raise-through-requires
 raise-through-requires c κs = omega (arith, c .before .before .before .before .before .before .width-of .ensures .1, c .before .before .before .before .before .before .before .record-size .ensures .1, room (c .before .before .before .before .before .before .before))
 
 drop-resolved-requires : tie.Need-drop-resolved-requires
 drop-resolved-requires c κs = (c .before .before .before .before .before .before .before .before .before .before .before .record-size .ensures .1, omega (arith, room (c .before .before .before .before .before .before .before .before .before .before .before), c .before .before .before .raise-through .kept))
-
-same-length : tie.Need-same-length
-same-length c = search needs
-
-same-length-2 : tie.Need-same-length-2
-same-length-2 c = search needs
 
 returns : tie.Need-returns
 returns c =
@@ -59,4 +44,4 @@ returns c =
 
 pub expire-pending-spec : {M : Type 1} → statement M
 expire-pending-spec =
-    tie.close (tie.spec record-size-requires width-of-requires expire-targets-requires raise-through-requires drop-resolved-requires same-length same-length-2 returns)
+    tie.close (tie.spec (λ c κs. search needs) (λ c κs. search needs) (λ c κs. search needs) raise-through-requires drop-resolved-requires (λ c. search needs) (λ c. search needs) returns)

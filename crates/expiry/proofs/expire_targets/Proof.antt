@@ -23,12 +23,6 @@ expire-one-requires c κs =
     let i : l .i < s .args .used = c .before .loop-test .taken in
     (omega (arith, l .inv .long), bucket-at (board-of (s .args .on)) (s .args .used) (now (s .args .pending)) (s .pre .1) (l .i) i)
 
-add-i : tie.Need-add-i Inv-loop μ-loop
-add-i c = omega arith
-
-loop-less : tie.Need-loop-less Inv-loop μ-loop
-loop-less c = omega arith
-
 loop-again : tie.Need-loop-again Inv-loop μ-loop
 loop-again c =
     let one = c .before .before .expire-one in
@@ -42,4 +36,4 @@ returns : tie.Need-returns Inv-loop μ-loop
 returns c = stop _ _ _ _ (c .before .loop .inv) (c .loop-test .left)
 
 pub expire-targets-spec : {M : Type 1} → statement M
-expire-targets-spec = tie.close (tie.spec Inv-loop μ-loop loop-holds expire-one-requires add-i loop-less loop-again same-length returns)
+expire-targets-spec = tie.close (tie.spec Inv-loop μ-loop loop-holds expire-one-requires (λ c. omega arith) (λ c. omega arith) loop-again same-length returns)

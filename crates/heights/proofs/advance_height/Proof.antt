@@ -21,9 +21,6 @@ expire-pending-requires c κs =
     let k = board-of (s .args .on) in
     ((resolved-places k (board-lawful (s .args .on)) (s .args .state) (given s) (s .pre), pending-room (s .args .on) (s .args .state) (given s) (s .pre)), pending-well (s .args .on) (s .args .state) (given s) (s .pre))
 
-factor-of-requires : tie.Need-factor-of-requires
-factor-of-requires c κs = search needs
-
 apply-decay-requires : tie.Need-apply-decay-requires
 apply-decay-requires c κs =
     let s = c .before .before .before .before .before .before .before .before .before .before .before .before .before .before in
@@ -35,18 +32,6 @@ prune-confirmed-requires : tie.Need-prune-confirmed-requires
 prune-confirmed-requires c κs =
     let s = c .before .before .before .before .before .before .before .before .before .before .before .before .before .before .before .before .before .before .before .before in
     recent-room (s .args .on) (s .args .state) (given s) (s .pre)
-
-same-length : tie.Need-same-length
-same-length c = search needs
-
-same-length-2 : tie.Need-same-length-2
-same-length-2 c = search needs
-
-same-length-3 : tie.Need-same-length-3
-same-length-3 c = search needs
-
-same-length-4 : tie.Need-same-length-4
-same-length-4 c = search needs
 
 returns : tie.Need-returns
 returns c =
@@ -62,4 +47,4 @@ returns c =
 
 pub advance-height-spec : {M : Type 1} → statement M
 advance-height-spec =
-    tie.close (tie.spec expire-pending-requires factor-of-requires apply-decay-requires prune-confirmed-requires same-length same-length-2 same-length-3 same-length-4 returns)
+    tie.close (tie.spec expire-pending-requires (λ c κs. search needs) apply-decay-requires prune-confirmed-requires (λ c. search needs) (λ c. search needs) (λ c. search needs) (λ c. search needs) returns)

@@ -23,20 +23,11 @@ given s = lent (now (s .args .confirmed)) (now (s .args .resolved)) (now (s .arg
 loop-holds : tie.Need-loop-holds Inv-loop μ-loop
 loop-holds c = let s = c .before .before .before .before in start (board-of (s .args .on)) (board-lawful (s .args .on)) (s .args .low .0) (s .args .n .0) (s .args .state) (given s) (s .pre .0)
 
-add-i : tie.Need-add-i Inv-loop μ-loop
-add-i c = omega arith
-
-add-next : tie.Need-add-next Inv-loop μ-loop
-add-next c = omega arith
-
 advance-height-requires : tie.Need-advance-height-requires Inv-loop μ-loop
 advance-height-requires c κs =
     let l = c .before .before .before .before .before in
     let s = l .before .before .before .before .before in
     ready-still (board-of (s .args .on)) (board-lawful (s .args .on)) (s .args .low .0) (s .args .n .0) (s .args .state) (given s) (s .pre .0) (l .loop .inv)
-
-loop-less : tie.Need-loop-less Inv-loop μ-loop
-loop-less c = omega arith
 
 loop-again : tie.Need-loop-again Inv-loop μ-loop
 loop-again c =
@@ -67,4 +58,4 @@ returns c =
 
 pub advance-heights-spec : {M : Type 1} → statement M
 advance-heights-spec =
-    tie.close (tie.spec Inv-loop μ-loop loop-holds add-i add-next advance-height-requires loop-less loop-again same-length same-length-2 same-length-3 same-length-4 returns)
+    tie.close (tie.spec Inv-loop μ-loop loop-holds (λ c. omega arith) (λ c. omega arith) advance-height-requires (λ c. omega arith) loop-again same-length same-length-2 same-length-3 same-length-4 returns)

@@ -13,12 +13,6 @@ use Rattle.heights.proofs.skip_heights.Tie as tie
 abbrev given : tie.Start → Lent
 given s = lent (now (s .args .confirmed)) (now (s .args .resolved)) (now (s .args .pending)) (now (s .args .recent))
 
-enum-known-last : tie.Need-enum-known-last
-enum-known-last c = search needs
-
-enum-told : tie.Need-enum-told
-enum-told c = search needs
-
 returns : tie.Need-returns
 returns c =
     let s = c .before .before .before .before .before .before in
@@ -30,27 +24,6 @@ returns-2 c =
     let s = c .before .before .before .before .before .before .before .before in
     none-between (board-of (s .args .on)) (board-lawful (s .args .on)) (s .args .state) (given s) (s .args .h .0) (s .pre) (last .given .1) (c .if1 .taken)
 
-sub-between : tie.Need-sub-between
-sub-between c = search needs
-
-sub-between-2 : tie.Need-sub-between-2
-sub-between-2 c = search needs
-
-advance-heights-requires : tie.Need-advance-heights-requires
-advance-heights-requires c κs = search needs
-
-same-length : tie.Need-same-length
-same-length c = search needs
-
-same-length-2 : tie.Need-same-length-2
-same-length-2 c = search needs
-
-same-length-3 : tie.Need-same-length-3
-same-length-3 c = search needs
-
-same-length-4 : tie.Need-same-length-4
-same-length-4 c = search needs
-
 returns-3 : tie.Need-returns-3
 returns-3 c =
     let u = c .before .before .before .before .before .before .before .before in
@@ -60,4 +33,4 @@ returns-3 c =
 
 pub skip-heights-spec : {M : Type 1} → statement M
 skip-heights-spec =
-    tie.close (tie.spec enum-known-last enum-told returns returns-2 sub-between sub-between-2 advance-heights-requires same-length same-length-2 same-length-3 same-length-4 returns-3)
+    tie.close (tie.spec (λ c. search needs) (λ c. search needs) returns returns-2 (λ c. search needs) (λ c. search needs) (λ c κs. search needs) (λ c. search needs) (λ c. search needs) (λ c. search needs) (λ c. search needs) returns-3)

@@ -22,12 +22,6 @@ start c = c .before .before .before .before .before .before .before .before .bef
 held : (c : tie.Else1) → holds-state (now (start c .args .state)) ≡ true
 held c = sym (c .before .holds-state .ensures) ∙ not-false _ (c .if1 .left)
 
-holds-state-requires : tie.Need-holds-state-requires
-holds-state-requires c κs = search needs
-
-same-length : tie.Need-same-length
-same-length c = search needs
-
 returns : tie.Need-returns
 unfolding izr-block-connected
 returns c = unfit _ _ _ _ _ (sym (c .before .holds-state .ensures) ∙ not-true _ (c .if1 .taken))
@@ -35,29 +29,8 @@ returns c = unfit _ _ _ _ _ (sym (c .before .holds-state .ensures) ∙ not-true 
 state-in-requires : tie.Need-state-in-requires
 state-in-requires c κs = held (c .before)
 
-block-connected-requires : tie.Need-block-connected-requires
-block-connected-requires c κs = search needs
-
 put-state-requires : tie.Need-put-state-requires
 put-state-requires c κs = let e = c .before .before .before .before .before .before .before .before .before .before .before .before .before .before .before .before .before in four (now (start e .args .state)) (held e)
-
-number-requires : tie.Need-number-requires
-number-requires c κs = search needs
-
-same-length-2 : tie.Need-same-length-2
-same-length-2 c = search needs
-
-same-length-3 : tie.Need-same-length-3
-same-length-3 c = search needs
-
-same-length-4 : tie.Need-same-length-4
-same-length-4 c = search needs
-
-same-length-5 : tie.Need-same-length-5
-same-length-5 c = search needs
-
-same-length-6 : tie.Need-same-length-6
-same-length-6 c = search needs
 
 returns-2 : tie.Need-returns-2
 unfolding izr-block-connected
@@ -74,16 +47,16 @@ pub izr-block-connected-spec : {M : Type 1} → statement M
 izr-block-connected-spec =
     tie.close
     (tie.spec
-    holds-state-requires
-    same-length
+    (λ c κs. search needs)
+    (λ c. search needs)
     returns
     state-in-requires
-    block-connected-requires
+    (λ c κs. search needs)
     put-state-requires
-    number-requires
-    same-length-2
-    same-length-3
-    same-length-4
-    same-length-5
-    same-length-6
+    (λ c κs. search needs)
+    (λ c. search needs)
+    (λ c. search needs)
+    (λ c. search needs)
+    (λ c. search needs)
+    (λ c. search needs)
     returns-2)

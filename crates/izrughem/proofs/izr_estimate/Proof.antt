@@ -20,9 +20,6 @@ start c = c .before .before .before .before .before .before
 held : (c : tie.Else1) → holds-state (now (start c .args .state)) ≡ true
 held c = sym (c .before .holds-state .ensures) ∙ not-false _ (c .if1 .left)
 
-holds-state-requires : tie.Need-holds-state-requires
-holds-state-requires c κs = search needs
-
 returns : tie.Need-returns
 unfolding izr-estimate
 returns c = unfit _ _ _ _ _ (not-first _ _ (sym (c .before .holds-state .ensures) ∙ not-true _ (c .if1 .taken)))
@@ -33,15 +30,6 @@ returns-2 c = unfit _ _ _ _ _ (not-second (holds-state (now (start (c .before) .
 
 state-in-requires : tie.Need-state-in-requires
 state-in-requires c κs = held (c .before)
-
-estimate-requires : tie.Need-estimate-requires
-estimate-requires c κs = search needs
-
-tell-estimated-requires : tie.Need-tell-estimated-requires
-tell-estimated-requires c κs = search needs
-
-same-length : tie.Need-same-length
-same-length c = search needs
 
 returns-3 : tie.Need-returns-3
 unfolding izr-estimate
@@ -59,11 +47,11 @@ pub izr-estimate-spec : {M : Type 1} → statement M
 izr-estimate-spec =
     tie.close
     (tie.spec
-    holds-state-requires
+    (λ c κs. search needs)
     returns
     returns-2
     state-in-requires
-    estimate-requires
-    tell-estimated-requires
-    same-length
+    (λ c κs. search needs)
+    (λ c κs. search needs)
+    (λ c. search needs)
     returns-3)

@@ -20,30 +20,6 @@ returns-2 : tie.Need-returns-2
 unfolding izr-from-history-bytes
 returns-2 c = unfit _ _ _ _ _ (not-second (leb 4 (length (now (start (c .before) .args .state)))) _ (no-word (now (start (c .before) .args .carried)) (c .if2 .taken)))
 
-from-history-bytes-requires : tie.Need-from-history-bytes-requires
-from-history-bytes-requires c κs = search needs
-
-tell-reading-requires : tie.Need-tell-reading-requires
-tell-reading-requires c κs = search needs
-
-same-length : tie.Need-same-length
-same-length c = search needs
-
-same-length-2 : tie.Need-same-length-2
-same-length-2 c = search needs
-
-same-length-3 : tie.Need-same-length-3
-same-length-3 c = search needs
-
-same-length-4 : tie.Need-same-length-4
-same-length-4 c = search needs
-
-same-length-5 : tie.Need-same-length-5
-same-length-5 c = search needs
-
-same-length-6 : tie.Need-same-length-6
-same-length-6 c = search needs
-
 returns-3 : tie.Need-returns-3
 unfolding izr-from-history-bytes
 returns-3 c =
@@ -61,12 +37,12 @@ izr-from-history-bytes-spec =
     (tie.spec
     returns
     returns-2
-    from-history-bytes-requires
-    tell-reading-requires
-    same-length
-    same-length-2
-    same-length-3
-    same-length-4
-    same-length-5
-    same-length-6
+    (λ c κs. search needs)
+    (λ c κs. search needs)
+    (λ c. search needs)
+    (λ c. search needs)
+    (λ c. search needs)
+    (λ c. search needs)
+    (λ c. search needs)
+    (λ c. search needs)
     returns-3)

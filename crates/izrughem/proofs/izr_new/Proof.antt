@@ -15,30 +15,6 @@ returns : tie.Need-returns
 unfolding izr-new
 returns c = unfit _ _ _ _ _ (lt-leb 4 _ (c .if1 .taken))
 
-new-requires : tie.Need-new-requires
-new-requires c κs = search needs
-
-number-requires : tie.Need-number-requires
-number-requires c κs = search needs
-
-put-if-done-requires : tie.Need-put-if-done-requires
-put-if-done-requires c κs = search needs
-
-same-length : tie.Need-same-length
-same-length c = search needs
-
-same-length-2 : tie.Need-same-length-2
-same-length-2 c = search needs
-
-same-length-3 : tie.Need-same-length-3
-same-length-3 c = search needs
-
-same-length-4 : tie.Need-same-length-4
-same-length-4 c = search needs
-
-same-length-5 : tie.Need-same-length-5
-same-length-5 c = search needs
-
 returns-2 : tie.Need-returns-2
 unfolding izr-new
 returns-2 c =
@@ -56,12 +32,12 @@ izr-new-spec =
     tie.close
     (tie.spec
     returns
-    new-requires
-    number-requires
-    put-if-done-requires
-    same-length
-    same-length-2
-    same-length-3
-    same-length-4
-    same-length-5
+    (λ c κs. search needs)
+    (λ c κs. search needs)
+    (λ c κs. search needs)
+    (λ c. search needs)
+    (λ c. search needs)
+    (λ c. search needs)
+    (λ c. search needs)
+    (λ c. search needs)
     returns-2)

@@ -22,9 +22,6 @@ start c = c .before .before .before .before .before .before .before .before .bef
 held : (c : tie.Else1) → holds-state (now (start c .args .state)) ≡ true
 held c = sym (c .before .holds-state .ensures) ∙ not-false _ (c .if1 .left)
 
-holds-state-requires : tie.Need-holds-state-requires
-holds-state-requires c κs = search needs
-
 returns : tie.Need-returns
 unfolding izr-to-history-bytes
 returns c = unfit _ _ _ _ _ (not-first _ _ (sym (c .before .holds-state .ensures) ∙ not-true _ (c .if1 .taken)))
@@ -35,18 +32,6 @@ returns-2 c = unfit _ _ _ _ _ (not-second (holds-state (now (start (c .before) .
 
 state-in-requires : tie.Need-state-in-requires
 state-in-requires c κs = held (c .before)
-
-to-history-bytes-requires : tie.Need-to-history-bytes-requires
-to-history-bytes-requires c κs = search needs
-
-tell-written-requires : tie.Need-tell-written-requires
-tell-written-requires c κs = search needs
-
-same-length : tie.Need-same-length
-same-length c = search needs
-
-same-length-2 : tie.Need-same-length-2
-same-length-2 c = search needs
 
 returns-3 : tie.Need-returns-3
 unfolding izr-to-history-bytes
@@ -64,12 +49,12 @@ pub izr-to-history-bytes-spec : {M : Type 1} → statement M
 izr-to-history-bytes-spec =
     tie.close
     (tie.spec
-    holds-state-requires
+    (λ c κs. search needs)
     returns
     returns-2
     state-in-requires
-    to-history-bytes-requires
-    tell-written-requires
-    same-length
-    same-length-2
+    (λ c κs. search needs)
+    (λ c κs. search needs)
+    (λ c. search needs)
+    (λ c. search needs)
     returns-3)

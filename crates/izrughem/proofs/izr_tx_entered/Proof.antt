@@ -24,43 +24,19 @@ start c = c .before .before .before .before .before .before
 held : (c : tie.Else1) → holds-state (now (start c .args .state)) ≡ true
 held c = sym (c .before .holds-state .ensures) ∙ not-false _ (c .if1 .left)
 
-holds-state-requires : tie.Need-holds-state-requires
-holds-state-requires c κs = search needs
-
-same-length : tie.Need-same-length
-same-length c = search needs
-
 returns : tie.Need-returns
 unfolding izr-tx-entered
 returns c = unfit _ _ _ _ _ (not-first _ _ (sym (c .before .holds-state .ensures) ∙ not-true _ (c .if1 .taken)))
-
-same-length-2 : tie.Need-same-length-2
-same-length-2 c = search needs
 
 returns-2 : tie.Need-returns-2
 unfolding izr-tx-entered
 returns-2 c = unfit _ _ _ _ _ (not-second (holds-state (now (start (c .before) .args .state))) _ (ne-eqb (length (now (start (c .before) .args .id))) 32 (c .if2 .taken)))
 
-id-in-requires : tie.Need-id-in-requires
-id-in-requires c κs = search needs
-
 state-in-requires : tie.Need-state-in-requires
 state-in-requires c κs = held (c .before .before .before)
 
-tx-entered-requires : tie.Need-tx-entered-requires
-tx-entered-requires c κs = search needs
-
 put-state-requires : tie.Need-put-state-requires
 put-state-requires c κs = let e = c .before .before .before .before .before .before .before .before .before .before .before in four (now (start e .args .state)) (held e)
-
-number-requires : tie.Need-number-requires
-number-requires c κs = search needs
-
-same-length-3 : tie.Need-same-length-3
-same-length-3 c = search needs
-
-same-length-4 : tie.Need-same-length-4
-same-length-4 c = search needs
 
 returns-3 : tie.Need-returns-3
 unfolding izr-tx-entered
@@ -78,16 +54,16 @@ pub izr-tx-entered-spec : {M : Type 1} → statement M
 izr-tx-entered-spec =
     tie.close
     (tie.spec
-    holds-state-requires
-    same-length
+    (λ c κs. search needs)
+    (λ c. search needs)
     returns
-    same-length-2
+    (λ c. search needs)
     returns-2
-    id-in-requires
+    (λ c κs. search needs)
     state-in-requires
-    tx-entered-requires
+    (λ c κs. search needs)
     put-state-requires
-    number-requires
-    same-length-3
-    same-length-4
+    (λ c κs. search needs)
+    (λ c. search needs)
+    (λ c. search needs)
     returns-3)

@@ -6,15 +6,9 @@ use borrow.Author.Needs.{needs}
 use Rattle.judge.proofs.judge_memory.Statement.{statement}
 use Rattle.judge.proofs.judge_memory.Tie as tie
 
-sound-counts-requires : tie.Need-sound-counts-requires
-sound-counts-requires c κs = search needs
-
 returns : tie.Need-returns
 unfolding sound
 returns c = sym (rw (sym (c .before .sound-counts .ensures) ∙ not-true _ (c .if1 .taken)))
-
-sound-counts-requires-2 : tie.Need-sound-counts-requires-2
-sound-counts-requires-2 c κs = search needs
 
 returns-2 : tie.Need-returns-2
 unfolding sound
@@ -23,9 +17,6 @@ returns-2 c =
       sym (c .before .before .before .sound-counts .ensures) ∙ not-false _ (c .before .before .if1 .left),
       sym (c .before .sound-counts2 .ensures) ∙ not-true _ (c .if2 .taken),
     ))
-
-judge-pending-requires : tie.Need-judge-pending-requires
-judge-pending-requires c κs = search needs
 
 returns-3 : tie.Need-returns-3
 unfolding sound
@@ -36,9 +27,6 @@ returns-3 c =
       sym (e .before .sound-counts2 .ensures) ∙ not-false _ (e .if2 .left),
       sym (c .before .judge-pending .ensures) ∙ not-true _ (c .if3 .taken),
     ))
-
-judge-confirmed-requires : tie.Need-judge-confirmed-requires
-judge-confirmed-requires c κs = search needs
 
 returns-4 : tie.Need-returns-4
 unfolding sound
@@ -54,4 +42,4 @@ returns-4 c =
 
 pub judge-memory-spec : {M : Type 1} → statement M
 judge-memory-spec =
-    tie.close (tie.spec sound-counts-requires returns sound-counts-requires-2 returns-2 judge-pending-requires returns-3 judge-confirmed-requires returns-4)
+    tie.close (tie.spec (λ c κs. search needs) returns (λ c κs. search needs) returns-2 (λ c κs. search needs) returns-3 (λ c κs. search needs) returns-4)

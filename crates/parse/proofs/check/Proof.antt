@@ -7,21 +7,6 @@ use borrow.Author.Needs.{needs}
 use Rattle.parse.proofs.check.Statement.{statement}
 use Rattle.parse.proofs.check.Tie as tie
 
-read-header-requires : tie.Need-read-header-requires
-read-header-requires c κs = search needs
-
-enum-told : tie.Need-enum-told
-enum-told c = search needs
-
-enum-known-h : tie.Need-enum-known-h
-enum-known-h c = search needs
-
-enum-told-2 : tie.Need-enum-told-2
-enum-told-2 c = search needs
-
-enum-known-h-2 : tie.Need-enum-known-h-2
-enum-known-h-2 c = search needs
-
 check-rest-requires : tie.Need-check-rest-requires
 unfolding header-says
 check-rest-requires c κs = sym (c .before .before .before .read-header .ensures) ∙ ap header-says (c .before .h2 .given .1)
@@ -38,20 +23,17 @@ returns-3 : tie.Need-returns-3
 unfolding file-says said header-says
 returns-3 c = sym (head-refused _ _ corrupt (sym (c .before .before .read-header .ensures) ∙ ap header-says (c .enum-told2 .given .1)))
 
-returns-4 : tie.Need-returns-4
-returns-4 c = search needs
-
 pub check-spec : {M : Type 1} → statement M
 check-spec =
     tie.close
     (tie.spec
-    read-header-requires
-    enum-told
-    enum-known-h
-    enum-told-2
-    enum-known-h-2
+    (λ c κs. search needs)
+    (λ c. search needs)
+    (λ c. search needs)
+    (λ c. search needs)
+    (λ c. search needs)
     check-rest-requires
     returns
     returns-2
     returns-3
-    returns-4)
+    (λ c. search needs))

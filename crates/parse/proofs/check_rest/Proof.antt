@@ -9,9 +9,6 @@ use borrow.Author.Needs.{needs}
 use Rattle.parse.proofs.check_rest.Statement.{statement}
 use Rattle.parse.proofs.check_rest.Tie as tie
 
-header-len-requires : tie.Need-header-len-requires
-header-len-requires c κs = search needs
-
 sub-if1 : tie.Need-sub-if1
 sub-if1 c = let h = headed _ _ _ (c .before .before .pre) in omega arith
 
@@ -22,9 +19,6 @@ returns c =
     let h = headed _ _ _ (s .pre) in
     sym (file-short _ (s .args .s .now) (s .args .last) h (c .before .header-len .result) (c .before .header-len .ensures .0) (omega arith))
 
-buckets-ok-requires : tie.Need-buckets-ok-requires
-buckets-ok-requires c κs = search needs
-
 returns-2 : tie.Need-returns-2
 unfolding file-says said
 returns-2 c =
@@ -32,12 +26,6 @@ returns-2 c =
     let h = headed _ _ _ (s .pre) in
     let at = c .before .before .before .header-len in
     sym (file-bad _ (s .args .s .now) (s .args .last) h (at .result) (at .ensures .0) (omega arith) (sym (c .before .buckets-ok .ensures) ∙ not-true _ (c .if2 .taken)))
-
-add-read-tables : tie.Need-add-read-tables
-add-read-tables c = search needs
-
-read-tables-requires : tie.Need-read-tables-requires
-read-tables-requires c κs = search needs
 
 returns-3 : tie.Need-returns-3
 unfolding file-says said
@@ -63,12 +51,12 @@ pub check-rest-spec : {M : Type 1} → statement M
 check-rest-spec =
     tie.close
     (tie.spec
-    header-len-requires
+    (λ c κs. search needs)
     sub-if1
     returns
-    buckets-ok-requires
+    (λ c κs. search needs)
     returns-2
-    add-read-tables
-    read-tables-requires
+    (λ c. search needs)
+    (λ c κs. search needs)
     returns-3
     returns-4)

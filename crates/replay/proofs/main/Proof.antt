@@ -14,18 +14,6 @@ long n = sym (length-replicate {0} {A = ℕ} n 0)
 slice-aggregate-read-full : tie.Need-slice-aggregate-read-full
 slice-aggregate-read-full c = long 2097153
 
-read-full-requires : tie.Need-read-full-requires
-read-full-requires c κs = search needs
-
-slice-aggregate-write-all : tie.Need-slice-aggregate-write-all
-slice-aggregate-write-all c = search needs
-
-write-all-requires : tie.Need-write-all-requires
-write-all-requires c κs = search needs
-
-returns : tie.Need-returns
-returns c = search needs
-
 array-share-prefix-script : tie.Need-array-share-prefix-script
 array-share-prefix-script c = c .before .before .read-full .ensures .0
 
@@ -38,12 +26,6 @@ slice-aggregate-run-2 c = long 440100
 slice-aggregate-run-3 : tie.Need-slice-aggregate-run-3
 slice-aggregate-run-3 c = long 720100
 
-slice-aggregate-run-4 : tie.Need-slice-aggregate-run-4
-slice-aggregate-run-4 c = search needs
-
-slice-aggregate-run-5 : tie.Need-slice-aggregate-run-5
-slice-aggregate-run-5 c = search needs
-
 slice-aggregate-run-6 : tie.Need-slice-aggregate-run-6
 slice-aggregate-run-6 c = long 1400000
 
@@ -53,29 +35,23 @@ slice-aggregate-run-7 c = long 1400000
 slice-aggregate-run-8 : tie.Need-slice-aggregate-run-8
 slice-aggregate-run-8 c = long 65536
 
-run-requires : tie.Need-run-requires
-run-requires c κs = search needs
-
-returns-2 : tie.Need-returns-2
-returns-2 c = search needs
-
 pub main-spec : {M : Type 1} → statement M
 main-spec =
     tie.close
     (tie.spec
     slice-aggregate-read-full
-    read-full-requires
-    slice-aggregate-write-all
-    write-all-requires
-    returns
+    (λ c κs. search needs)
+    (λ c. search needs)
+    (λ c κs. search needs)
+    (λ c. search needs)
     array-share-prefix-script
     slice-aggregate-run
     slice-aggregate-run-2
     slice-aggregate-run-3
-    slice-aggregate-run-4
-    slice-aggregate-run-5
+    (λ c. search needs)
+    (λ c. search needs)
     slice-aggregate-run-6
     slice-aggregate-run-7
     slice-aggregate-run-8
-    run-requires
-    returns-2)
+    (λ c κs. search needs)
+    (λ c. search needs))

@@ -11,41 +11,11 @@ use borrow.Author.Needs.{needs}
 use Rattle.report.proofs.report.Statement.{statement}
 use Rattle.report.proofs.report.Tie as tie
 
-slice-aggregate-put-refused : tie.Need-slice-aggregate-put-refused
-slice-aggregate-put-refused c = search needs
-
-put-refused-requires : tie.Need-put-refused-requires
-put-refused-requires c κs = search needs
-
 returns : tie.Need-returns
 returns c =
     let s = c .before .before .before .before .before in
     let n : length (now (s .args .out)) ≡ 2048 = search needs in
     put-too-long (now (s .args .file)) (now (s .args .out)) n (c .before .before .before .if1 .taken) _ _ (c .put-refused .ensures)
-
-slice-aggregate-from-history-bytes : tie.Need-slice-aggregate-from-history-bytes
-slice-aggregate-from-history-bytes c = search needs
-
-slice-aggregate-from-history-bytes-2 : tie.Need-slice-aggregate-from-history-bytes-2
-slice-aggregate-from-history-bytes-2 c = search needs
-
-slice-aggregate-from-history-bytes-3 : tie.Need-slice-aggregate-from-history-bytes-3
-slice-aggregate-from-history-bytes-3 c = search needs
-
-slice-aggregate-from-history-bytes-4 : tie.Need-slice-aggregate-from-history-bytes-4
-slice-aggregate-from-history-bytes-4 c = search needs
-
-from-history-bytes-requires : tie.Need-from-history-bytes-requires
-from-history-bytes-requires c κs = search needs
-
-slice-aggregate-tell : tie.Need-slice-aggregate-tell
-slice-aggregate-tell c = search needs
-
-slice-aggregate-tell-2 : tie.Need-slice-aggregate-tell-2
-slice-aggregate-tell-2 c = search needs
-
-tell-requires : tie.Need-tell-requires
-tell-requires c κs = search needs
 
 returns-2 : tie.Need-returns-2
 unfolding room ofBits
@@ -61,15 +31,15 @@ pub report-spec : {M : Type 1} → statement M
 report-spec =
     tie.close
     (tie.spec
-    slice-aggregate-put-refused
-    put-refused-requires
+    (λ c. search needs)
+    (λ c κs. search needs)
     returns
-    slice-aggregate-from-history-bytes
-    slice-aggregate-from-history-bytes-2
-    slice-aggregate-from-history-bytes-3
-    slice-aggregate-from-history-bytes-4
-    from-history-bytes-requires
-    slice-aggregate-tell
-    slice-aggregate-tell-2
-    tell-requires
+    (λ c. search needs)
+    (λ c. search needs)
+    (λ c. search needs)
+    (λ c. search needs)
+    (λ c κs. search needs)
+    (λ c. search needs)
+    (λ c. search needs)
+    (λ c κs. search needs)
     returns-2)

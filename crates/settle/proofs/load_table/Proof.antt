@@ -47,9 +47,6 @@ less c =
 long : (c : tie.After-drop-repeats) → length (c .drop-repeats .last .0) ≡ length (now (start (put-of (sort-of c)) .args .table))
 long c = c .drop-repeats .kept .0 ∙ sort-of c .sort .kept .0 ∙ put-of (sort-of c) .put-bytes .kept .0
 
-mul-put-bytes : tie.Need-mul-put-bytes
-mul-put-bytes c = search needs
-
 slice-aggregate-put-bytes : tie.Need-slice-aggregate-put-bytes
 slice-aggregate-put-bytes c = let s = c .before .before .before .before in sym (length-take-le (s .args .n * s .args .size) (s .args .src .now) (s .pre .1 .1 .0))
 
@@ -59,17 +56,8 @@ put-bytes-requires c κs = let s = c .before .before .before .before in omega (a
 ids-rise-requires : tie.Need-ids-rise-requires
 ids-rise-requires c κs = let p = c .before .before .before in omega (arith, short (start p), p .put-bytes .kept .0)
 
-mul-zero : tie.Need-mul-zero
-mul-zero c = search needs
-
-mul-zero-2 : tie.Need-mul-zero-2
-mul-zero-2 c = search needs
-
 zero-requires : tie.Need-zero-requires
 zero-requires c κs = let p = c .before .before .before .before .before .before in omega (arith, short (start p), p .put-bytes .kept .0)
-
-same-length : tie.Need-same-length
-same-length c = search needs
 
 returns : tie.Need-returns
 returns c =
@@ -89,9 +77,6 @@ drop-repeats-requires c κs = let o = c .before .before .before in let s = start
 mul-zero-3 : tie.Need-mul-zero-3
 mul-zero-3 c = let d = c .before .before .before in omega (arith, less d, short (start (put-of (sort-of d))), small (put-of (sort-of d) .before .before .before .before))
 
-mul-zero-4 : tie.Need-mul-zero-4
-mul-zero-4 c = search needs
-
 zero-requires-2 : tie.Need-zero-requires-2
 zero-requires-2 c κs = let d = c .before .before .before in omega (arith, less d, long d, short (start (put-of (sort-of d))))
 
@@ -103,9 +88,6 @@ renew-all-requires c κs =
     let p = put-of o in
     let s = start p in
     ((s .pre .0 .0, omega (arith, less d, short s, long d, z .zero2 .kept .0)), (s .pre .1 .1 .0, (once-up (s .args .size) (s .args .room) (s .args .n) (now (s .args .table)) (now (s .args .src)) (s .pre .1 .0) (s .pre .1 .1 .1) (s .pre .1 .1 .0) (p .put-bytes .last .0) (holds p) (o .sort .last .0) (o .sort .ensures) (d .drop-repeats .last .0) (d .drop-repeats .result) (d .drop-repeats .ensures) (z .zero2 .last .0) (z .zero2 .ensures), once-there (s .args .size) (s .args .room) (s .args .n) (now (s .args .table)) (now (s .args .src)) (s .pre .1 .0) (s .pre .1 .1 .1) (s .pre .1 .1 .0) (p .put-bytes .last .0) (holds p) (o .sort .last .0) (o .sort .ensures) (d .drop-repeats .last .0) (d .drop-repeats .result) (d .drop-repeats .ensures) (z .zero2 .last .0) (z .zero2 .ensures))))
-
-same-length-2 : tie.Need-same-length-2
-same-length-2 c = search needs
 
 returns-2 : tie.Need-returns-2
 returns-2 c =
@@ -122,20 +104,20 @@ pub load-table-spec : {M : Type 1} → statement M
 load-table-spec =
     tie.close
     (tie.spec
-    mul-put-bytes
+    (λ c. search needs)
     slice-aggregate-put-bytes
     put-bytes-requires
     ids-rise-requires
-    mul-zero
-    mul-zero-2
+    (λ c. search needs)
+    (λ c. search needs)
     zero-requires
-    same-length
+    (λ c. search needs)
     returns
     sort-requires
     drop-repeats-requires
     mul-zero-3
-    mul-zero-4
+    (λ c. search needs)
     zero-requires-2
     renew-all-requires
-    same-length-2
+    (λ c. search needs)
     returns-2)

@@ -13,9 +13,6 @@ given s = lent (now (s .args .confirmed)) (now (s .args .resolved)) (now (s .arg
 abbrev start : tie.After-empty → tie.Start
 start c = c .before .before .before .before .before
 
-empty-requires : tie.Need-empty-requires
-empty-requires c κs = search needs
-
 returns : tie.Need-returns
 returns c = let s = start (c .before) in start-few (board-of (s .args .on)) (given s) _ (c .before .empty .ensures) (c .if1 .taken)
 
@@ -24,33 +21,6 @@ returns-2 c =
     let n = c .before .before in
     let s = start n in
     start-fewer (board-of (s .args .on)) (given s) _ (n .empty .ensures) (c .before .if1 .left) (c .if2 .taken)
-
-clear-counts-requires : tie.Need-clear-counts-requires
-clear-counts-requires c κs = search needs
-
-clear-counts-requires-2 : tie.Need-clear-counts-requires-2
-clear-counts-requires-2 c κs = search needs
-
-record-size-requires : tie.Need-record-size-requires
-record-size-requires c κs = search needs
-
-clear-table-requires : tie.Need-clear-table-requires
-clear-table-requires c κs = search needs
-
-clear-table-requires-2 : tie.Need-clear-table-requires-2
-clear-table-requires-2 c κs = search needs
-
-same-length : tie.Need-same-length
-same-length c = search needs
-
-same-length-2 : tie.Need-same-length-2
-same-length-2 c = search needs
-
-same-length-3 : tie.Need-same-length-3
-same-length-3 c = search needs
-
-same-length-4 : tie.Need-same-length-4
-same-length-4 c = search needs
 
 returns-3 : tie.Need-returns-3
 returns-3 c =
@@ -68,16 +38,16 @@ pub new-spec : {M : Type 1} → statement M
 new-spec =
     tie.close
     (tie.spec
-    empty-requires
+    (λ c κs. search needs)
     returns
     returns-2
-    clear-counts-requires
-    clear-counts-requires-2
-    record-size-requires
-    clear-table-requires
-    clear-table-requires-2
-    same-length
-    same-length-2
-    same-length-3
-    same-length-4
+    (λ c κs. search needs)
+    (λ c κs. search needs)
+    (λ c κs. search needs)
+    (λ c κs. search needs)
+    (λ c κs. search needs)
+    (λ c. search needs)
+    (λ c. search needs)
+    (λ c. search needs)
+    (λ c. search needs)
     returns-3)

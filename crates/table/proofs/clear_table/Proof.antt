@@ -14,17 +14,11 @@ use Rattle.table.proofs.clear_table.Tie as tie
 room : (c : tie.After-capacity) → let a = c .before .before .before .args in c .capacity .result * a .size ≤ length (now (a .table))
 room c = let a = c .before .before .before .args in rw (c .capacity .ensures) (capacity-room (a .size) (a .most) (now (a .table)))
 
-capacity-requires : tie.Need-capacity-requires
-capacity-requires c κs = search needs
-
 mul-zero : tie.Need-mul-zero
 mul-zero c = omega (arith, room (c .before))
 
 zero-requires : tie.Need-zero-requires
 zero-requires c κs = omega (arith, room (c .before))
-
-same-length : tie.Need-same-length
-same-length c = search needs
 
 returns : tie.Need-returns
 returns c =
@@ -32,4 +26,4 @@ returns c =
     c .before .before .zero .ensures ∙ rw (c .before .before .before .before .capacity .ensures) (none-laid (a .size) (capacity (a .size) (a .most) (now (a .table))) (now (a .table)))
 
 pub clear-table-spec : {M : Type 1} → statement M
-clear-table-spec = tie.close (tie.spec capacity-requires mul-zero zero-requires same-length returns)
+clear-table-spec = tie.close (tie.spec (λ c κs. search needs) mul-zero zero-requires (λ c. search needs) returns)

@@ -4,12 +4,6 @@ use borrow.Author.Needs.{needs}
 use Rattle.blocks.proofs.accept.advances.Statement.{statement}
 use Rattle.blocks.proofs.accept.advances.Tie as tie
 
-enum-known-last : tie.Need-enum-known-last
-enum-known-last c = search needs
-
-enum-told : tie.Need-enum-told
-enum-told c = search needs
-
 returns : tie.Need-returns
 unfolding advances
 returns c = rw (c .enum-told .given .1)
@@ -19,4 +13,4 @@ unfolding advances
 returns-2 c = rw (c .before .last .given .1)
 
 pub advances-spec : {M : Type 1} → statement M
-advances-spec = tie.close (tie.spec enum-known-last enum-told returns returns-2)
+advances-spec = tie.close (tie.spec (λ c. search needs) (λ c. search needs) returns returns-2)

@@ -39,9 +39,6 @@ first c = c .before .before .before .before .before .before .before .before .bef
 abbrev listed : tie.After-confirm-all → Lent
 listed c = let m = c .confirm-all .last .1 in lent (m .0) (m .1 .0) (m .1 .1 .0) (m .1 .1 .1 .0)
 
-skip-heights-requires : tie.Need-skip-heights-requires
-skip-heights-requires c κs = search needs
-
 confirm-all-requires : tie.Need-confirm-all-requires
 confirm-all-requires c κs =
     let k = c .before .before .before .before .before .before .before .before .before .before .before .before in
@@ -49,9 +46,6 @@ confirm-all-requires c κs =
       ready-to-list (board s) (board-lawful (s .args .on)) (given s) (k .skip-heights .result) (skipped k) (k .skip-heights .ensures),
       room-to-list (board s) (board-lawful (s .args .on)) (given s) (k .skip-heights .result) (skipped k) (k .skip-heights .ensures),
     )
-
-advances-requires : tie.Need-advances-requires
-advances-requires c κs = search needs
 
 advance-height-requires : tie.Need-advance-height-requires
 advance-height-requires c κs =
@@ -82,9 +76,6 @@ same-length-3 c =
     let k = first n in
     o .advance-height .kept .1 .1 .1 .0 ∙ n .confirm-all .kept .1 .1 .1 .0 ∙ k .skip-heights .kept .1 .1 .1 .0
 
-same-length-4 : tie.Need-same-length-4
-same-length-4 c = search needs
-
 returns : tie.Need-returns
 returns c =
     let o = c .before .before .before .before .before .before .before .before in
@@ -94,18 +85,6 @@ returns c =
     let s = start k in
     block-advanced (board s) (board-lawful (s .args .on)) (given s) (k .skip-heights .result) (skipped k) (k .skip-heights .ensures)
     (n .confirm-all .result) (listed n) (n .confirm-all .ensures) (sym (t .before .advances .ensures) ∙ t .if1 .taken) (o .advance-height .result) _ (o .advance-height .ensures)
-
-same-length-5 : tie.Need-same-length-5
-same-length-5 c = search needs
-
-same-length-6 : tie.Need-same-length-6
-same-length-6 c = search needs
-
-same-length-7 : tie.Need-same-length-7
-same-length-7 c = search needs
-
-same-length-8 : tie.Need-same-length-8
-same-length-8 c = search needs
 
 returns-2 : tie.Need-returns-2
 returns-2 c =
@@ -119,17 +98,17 @@ pub connect-spec : {M : Type 1} → statement M
 connect-spec =
     tie.close
     (tie.spec
-    skip-heights-requires
+    (λ c κs. search needs)
     confirm-all-requires
-    advances-requires
+    (λ c κs. search needs)
     advance-height-requires
     same-length
     same-length-2
     same-length-3
-    same-length-4
+    (λ c. search needs)
     returns
-    same-length-5
-    same-length-6
-    same-length-7
-    same-length-8
+    (λ c. search needs)
+    (λ c. search needs)
+    (λ c. search needs)
+    (λ c. search needs)
     returns-2)

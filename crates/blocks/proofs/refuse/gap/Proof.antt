@@ -5,18 +5,9 @@ use borrow.Author.Needs.{needs}
 use Rattle.blocks.proofs.refuse.gap.Statement.{statement}
 use Rattle.blocks.proofs.refuse.gap.Tie as tie
 
-enum-known-last : tie.Need-enum-known-last
-enum-known-last c = search needs
-
-enum-told : tie.Need-enum-told
-enum-told c = search needs
-
 returns : tie.Need-returns
 unfolding gap
 returns c = rw (c .enum-told .given .1)
-
-sub-t8 : tie.Need-sub-t8
-sub-t8 c = search needs
 
 returns-2 : tie.Need-returns-2
 unfolding gap
@@ -27,4 +18,4 @@ unfolding gap
 returns-3 c = rw (c .before .before .last .given .1) (omega arith)
 
 pub gap-spec : {M : Type 1} → statement M
-gap-spec = tie.close (tie.spec enum-known-last enum-told returns sub-t8 returns-2 returns-3)
+gap-spec = tie.close (tie.spec (λ c. search needs) (λ c. search needs) returns (λ c. search needs) returns-2 returns-3)

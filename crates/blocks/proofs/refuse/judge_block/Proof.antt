@@ -35,9 +35,6 @@ second c = c .before .before .before
 narrow : (c : tie.Else3) → let s = start (second c .before) in gap (given s .state .last) (given s .height) ≤ widest-gap
 narrow c = omega (arith, c .before .before .gap .ensures, c .if3 .left)
 
-judge-memory-requires : tie.Need-judge-memory-requires
-judge-memory-requires c κs = search needs
-
 returns : tie.Need-returns
 returns c =
     let s = c .before .before .before .before .before .before .before in
@@ -46,17 +43,11 @@ returns c =
 returns-2 : tie.Need-returns-2
 returns-2 c = let s = start (c .before) in answer-list (board s) (given s) (is-sound (c .before)) (c .if2 .taken)
 
-gap-requires : tie.Need-gap-requires
-gap-requires c κs = search needs
-
 returns-3 : tie.Need-returns-3
 returns-3 c =
     let w = c .before .before .before in
     let s = start (w .before) in
     answer-gap (board s) (given s) (is-sound (w .before)) (w .if2 .left) (omega (arith, c .before .before .gap .ensures, c .if3 .taken))
-
-capacity-requires : tie.Need-capacity-requires
-capacity-requires c κs = search needs
 
 sub-free : tie.Need-sub-free
 sub-free c =
@@ -89,12 +80,12 @@ pub judge-block-spec : {M : Type 1} → statement M
 judge-block-spec =
     tie.close
     (tie.spec
-    judge-memory-requires
+    (λ c κs. search needs)
     returns
     returns-2
-    gap-requires
+    (λ c κs. search needs)
     returns-3
-    capacity-requires
+    (λ c κs. search needs)
     sub-free
     pending-listings-requires
     returns-4

@@ -5,15 +5,6 @@ use borrow.Author.Needs.{needs}
 use Rattle.boards.proofs.columns.column_of.Statement.{statement}
 use Rattle.boards.proofs.columns.column_of.Tie as tie
 
-width-of-requires : tie.Need-width-of-requires
-width-of-requires c κs = search needs
-
-first-column-requires : tie.Need-first-column-requires
-first-column-requires c κs = search needs
-
-cast-c : tie.Need-cast-c
-cast-c c = search needs
-
 returns : tie.Need-returns
 returns c =
     let a = c .before .before .before .args in
@@ -29,4 +20,4 @@ returns-2 c =
     column-is (a .on) (w .result .0) (f .result) (a .target .0) _ (w .ensures .0) (f .ensures) (omega (arith, c .if1 .left))
 
 pub column-of-spec : {M : Type 1} → statement M
-column-of-spec = tie.close (tie.spec width-of-requires first-column-requires cast-c returns returns-2)
+column-of-spec = tie.close (tie.spec (λ c κs. search needs) (λ c κs. search needs) (λ c. search needs) returns returns-2)

@@ -15,12 +15,6 @@ returns c = λ k.
     let z : a .wait .0 ≡ 0 = omega arith in
     rw z (no-wait (a .width .0) k)
 
-sub-result : tie.Need-sub-result
-sub-result c = search needs
-
-div-result : tie.Need-div-result
-div-result c = search needs
-
 add-result : tie.Need-add-result
 add-result c = (let a = c .before .before .args in omega (arith, div-le-self (a .wait .0 - 1) (a .width .0)))
 
@@ -28,4 +22,4 @@ returns-2 : tie.Need-returns-2
 returns-2 c = λ k. some-wait _ _ k (omega arith) (omega arith)
 
 pub first-column-spec : {M : Type 1} → statement M
-first-column-spec = tie.close (tie.spec returns sub-result div-result add-result returns-2)
+first-column-spec = tie.close (tie.spec returns (λ c. search needs) (λ c. search needs) add-result returns-2)

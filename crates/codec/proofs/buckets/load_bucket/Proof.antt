@@ -6,21 +6,6 @@ use borrow.Author.Needs.{needs}
 use Rattle.codec.proofs.buckets.load_bucket.Statement.{statement}
 use Rattle.codec.proofs.buckets.load_bucket.Tie as tie
 
-read-row-requires : tie.Need-read-row-requires
-read-row-requires c κs = search needs
-
-read-row-requires-2 : tie.Need-read-row-requires-2
-read-row-requires-2 c κs = search needs
-
-bucket-in-requires : tie.Need-bucket-in-requires
-bucket-in-requires c κs = search needs
-
-same-length : tie.Need-same-length
-same-length c = search needs
-
-same-length-2 : tie.Need-same-length-2
-same-length-2 c = search needs
-
 returns : tie.Need-returns
 returns c =
     let s = c .before .before .before .before .before .before .before .before .before .before .before .before .before .before in
@@ -34,9 +19,9 @@ pub load-bucket-spec : {M : Type 1} → statement M
 load-bucket-spec =
     tie.close
     (tie.spec
-    read-row-requires
-    read-row-requires-2
-    bucket-in-requires
-    same-length
-    same-length-2
+    (λ c κs. search needs)
+    (λ c κs. search needs)
+    (λ c κs. search needs)
+    (λ c. search needs)
+    (λ c. search needs)
     returns)

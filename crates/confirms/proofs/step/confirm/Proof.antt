@@ -14,32 +14,11 @@ holds-requires c κs = let s = c .before .before .before .before .before .before
 forget-requires : tie.Need-forget-requires
 forget-requires c κs = let s = c .before .before .before .before .before .before .before .before .before in (pending-sound (board-of (s .args .on)) (board-lawful (s .args .on)) _ _ (s .pre .0), s .pre .1 .1)
 
-same-length : tie.Need-same-length
-same-length c = search needs
-
-same-length-2 : tie.Need-same-length-2
-same-length-2 c = search needs
-
 returns : tie.Need-returns
 returns c =
     let s = c .before .before .before .before .before .before .before .before .before .before .before .before in
     let k = c .before .before .forget .ensures in
     uncounted (board-of (s .args .on)) (board-lawful (s .args .on)) _ _ (s .pre .0) _ _ (sym (c .before .before .before .before .before .holds .ensures) ∙ c .before .before .before .before .if1 .taken) _ _ (k .0) (k .1)
-
-record-confirmation-requires : tie.Need-record-confirmation-requires
-record-confirmation-requires c κs = search needs
-
-same-length-3 : tie.Need-same-length-3
-same-length-3 c = search needs
-
-same-length-4 : tie.Need-same-length-4
-same-length-4 c = search needs
-
-same-length-5 : tie.Need-same-length-5
-same-length-5 c = search needs
-
-same-length-6 : tie.Need-same-length-6
-same-length-6 c = search needs
 
 returns-2 : tie.Need-returns-2
 returns-2 c =
@@ -48,4 +27,4 @@ returns-2 c =
 
 pub confirm-spec : {M : Type 1} → statement M
 confirm-spec =
-    tie.close (tie.spec holds-requires forget-requires same-length same-length-2 returns record-confirmation-requires same-length-3 same-length-4 same-length-5 same-length-6 returns-2)
+    tie.close (tie.spec holds-requires forget-requires (λ c. search needs) (λ c. search needs) returns (λ c κs. search needs) (λ c. search needs) (λ c. search needs) (λ c. search needs) (λ c. search needs) returns-2)

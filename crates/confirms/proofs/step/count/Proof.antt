@@ -7,27 +7,6 @@ use borrow.Author.Needs.{needs}
 use Rattle.confirms.proofs.step.count.Statement.{statement}
 use Rattle.confirms.proofs.step.count.Tie as tie
 
-waited-requires : tie.Need-waited-requires
-waited-requires c κs = search needs
-
-width-of-requires : tie.Need-width-of-requires
-width-of-requires c κs = search needs
-
-first-column-requires : tie.Need-first-column-requires
-first-column-requires c κs = search needs
-
-cast-count-confirmation : tie.Need-cast-count-confirmation
-cast-count-confirmation c = search needs
-
-count-confirmation-requires : tie.Need-count-confirmation-requires
-count-confirmation-requires c κs = search needs
-
-same-length : tie.Need-same-length
-same-length c = search needs
-
-same-length-2 : tie.Need-same-length-2
-same-length-2 c = search needs
-
 returns : tie.Need-returns
 returns c =
     let n = c .before .before .before .before .before .before .before in
@@ -39,4 +18,4 @@ returns c =
 
 pub count-spec : {M : Type 1} → statement M
 count-spec =
-    tie.close (tie.spec waited-requires width-of-requires first-column-requires cast-count-confirmation count-confirmation-requires same-length same-length-2 returns)
+    tie.close (tie.spec (λ c κs. search needs) (λ c κs. search needs) (λ c κs. search needs) (λ c. search needs) (λ c κs. search needs) (λ c. search needs) (λ c. search needs) returns)

@@ -55,17 +55,11 @@ record-read n = let a = start n .args in read-at (a .on) (size n) (a .state .pen
 placed : (n : tie.After-i) → let a = start n .args in (n .i .given .0 .0 < a .state .pending) × (a .state .pending * size n ≤ length (now (a .pending)))
 placed n = in-table _ _ pending-most _ _ _ _ (size-told n .0) (sound n) (at n)
 
-record-size-requires : tie.Need-record-size-requires
-record-size-requires c κs = search needs
-
 find-requires : tie.Need-find-requires
 find-requires c κs =
     let s = c .before .before .before .before .before .before .before in
     let z = c .before .record-size .ensures in
     searchable _ _ pending-most _ _ (now (s .args .id)) (z .0) (omega (arith, z .1)) (pending-sound (board-of (s .args .on)) (board-lawful (s .args .on)) _ _ (s .pre .0)) (s .pre .1 .1)
-
-enum-known-i : tie.Need-enum-known-i
-enum-known-i c = search needs
 
 pending-at-requires : tie.Need-pending-at-requires
 pending-at-requires c κs = let n = c .before .before .before .before in (size-told n .1, placed n)
@@ -91,21 +85,6 @@ note-height-requires c κs =
     let s = start n in
     (recent-sound (board-of (on n)) (board-lawful (on n)) _ _ (s .pre .0), (room-for-it _ _ _ (there (board-of (on n)) (board-lawful (on n)) _ _ _ _ (sound n) (at n)) (s .pre .1 .0), s .pre .1 .1))
 
-enum-told : tie.Need-enum-told
-enum-told c = search needs
-
-same-length : tie.Need-same-length
-same-length c = search needs
-
-same-length-2 : tie.Need-same-length-2
-same-length-2 c = search needs
-
-same-length-3 : tie.Need-same-length-3
-same-length-3 c = search needs
-
-same-length-4 : tie.Need-same-length-4
-same-length-4 c = search needs
-
 returns : tie.Need-returns
 returns c =
     let n = c .before .before .before .before .before .before .before .before .before .before .before .before .before .before .before .before .before .before in
@@ -119,9 +98,6 @@ returns c =
     (removed k law _ _ _ _ (sound n) _ _ (size-told n .0) (are-bytes (c .before .before .before .before .before .before .remove .last .0) (λ i. c .before .before .before .before .slice-known7 .given i .fits)) (at n) (c .before .before .before .before .before .before .remove .ensures))
     (c .before .before .note-height .ensures)
 
-same-length-5 : tie.Need-same-length-5
-same-length-5 c = search needs
-
 returns-2 : tie.Need-returns-2
 returns-2 c =
     let s = c .before .before .before .before .before .before .before .before .before .before in
@@ -131,4 +107,4 @@ returns-2 c =
 
 pub record-confirmation-spec : {M : Type 1} → statement M
 record-confirmation-spec =
-    tie.close (tie.spec record-size-requires find-requires enum-known-i pending-at-requires count-requires remove-requires sub-left note-height-requires enum-told same-length same-length-2 same-length-3 same-length-4 returns same-length-5 returns-2)
+    tie.close (tie.spec (λ c κs. search needs) find-requires (λ c. search needs) pending-at-requires count-requires remove-requires sub-left note-height-requires (λ c. search needs) (λ c. search needs) (λ c. search needs) (λ c. search needs) (λ c. search needs) returns (λ c. search needs) returns-2)

@@ -24,18 +24,6 @@ abbrev μ-loop : tie.MeasureT-loop
 loop-holds : tie.Need-loop-holds Inv-loop μ-loop
 loop-holds c = start (omega arith)
 
-mul-counts : tie.Need-mul-counts Inv-loop μ-loop
-mul-counts c = omega arith
-
-slice-write-counts : tie.Need-slice-write-counts Inv-loop μ-loop
-slice-write-counts c = omega arith
-
-add-i : tie.Need-add-i Inv-loop μ-loop
-add-i c = omega arith
-
-loop-less : tie.Need-loop-less Inv-loop μ-loop
-loop-less c = omega arith
-
 loop-again : tie.Need-loop-again Inv-loop μ-loop
 loop-again c = step nan (c .before .loop .inv) (omega arith) nought-is
 
@@ -48,4 +36,4 @@ returns c =
     stop g (omega arith) ∙ filled nought places-of-counts (now (c .before .before .args .counts)) (g .fits)
 
 pub clear-counts-spec : {M : Type 1} → statement M
-clear-counts-spec = tie.close (tie.spec Inv-loop μ-loop loop-holds mul-counts slice-write-counts add-i loop-less loop-again same-length returns)
+clear-counts-spec = tie.close (tie.spec Inv-loop μ-loop loop-holds (λ c. omega arith) (λ c. omega arith) (λ c. omega arith) (λ c. omega arith) loop-again same-length returns)

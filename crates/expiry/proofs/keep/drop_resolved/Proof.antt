@@ -5,18 +5,9 @@ use borrow.Author.Needs.{needs}
 use Rattle.expiry.proofs.keep.drop_resolved.Statement.{statement}
 use Rattle.expiry.proofs.keep.drop_resolved.Tie as tie
 
-cast-last : tie.Need-cast-last
-cast-last c = search needs
-
-keep-passing-requires : tie.Need-keep-passing-requires
-keep-passing-requires c κs = search needs
-
-same-length : tie.Need-same-length
-same-length c = search needs
-
 returns : tie.Need-returns
 unfolding in-bound pending-of
 returns c = c .before .before .keep-passing .ensures
 
 pub drop-resolved-spec : {M : Type 1} → statement M
-drop-resolved-spec = tie.close (tie.spec cast-last keep-passing-requires same-length returns)
+drop-resolved-spec = tie.close (tie.spec (λ c. search needs) (λ c κs. search needs) (λ c. search needs) returns)

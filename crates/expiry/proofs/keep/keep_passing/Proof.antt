@@ -25,12 +25,6 @@ loop-holds c = (let s = c .before in keeping-none (passing (s .args .off) (s .ar
 keep-one-requires : tie.Need-keep-one-requires Inv-loop μ-loop
 keep-one-requires c κs = (let s = c .before .before .before .before in omega (arith, record-end (s .args .size) (s .args .used) (c .before .before .loop .i) (c .before .loop-test .taken)))
 
-add-i : tie.Need-add-i Inv-loop μ-loop
-add-i c = omega arith
-
-loop-less : tie.Need-loop-less Inv-loop μ-loop
-loop-less c = omega arith
-
 loop-again : tie.Need-loop-again Inv-loop μ-loop
 loop-again c =
     let s = c .before .before .before .before .before .before .before in
@@ -41,14 +35,8 @@ loop-again c =
 mul-zero : tie.Need-mul-zero Inv-loop μ-loop
 mul-zero c = (let s = c .before .before .before .before in omega (arith, past s (c .before .before .loop .k) (omega arith)))
 
-mul-zero-2 : tie.Need-mul-zero-2 Inv-loop μ-loop
-mul-zero-2 c = omega arith
-
 zero-requires : tie.Need-zero-requires Inv-loop μ-loop
 zero-requires c κs = (let s = c .before .before .before .before in omega (arith, past s (c .before .before .loop .k) (omega arith)))
-
-same-length : tie.Need-same-length Inv-loop μ-loop
-same-length c = cc
 
 returns : tie.Need-returns Inv-loop μ-loop
 returns c =
@@ -59,4 +47,4 @@ returns c =
     (n .0, c .before .before .zero .ensures ∙ n .1)
 
 pub keep-passing-spec : {M : Type 1} → statement M
-keep-passing-spec = tie.close (tie.spec Inv-loop μ-loop loop-holds keep-one-requires add-i loop-less loop-again mul-zero mul-zero-2 zero-requires same-length returns)
+keep-passing-spec = tie.close (tie.spec Inv-loop μ-loop loop-holds keep-one-requires (λ c. omega arith) (λ c. omega arith) loop-again mul-zero (λ c. omega arith) zero-requires (λ c. cc) returns)

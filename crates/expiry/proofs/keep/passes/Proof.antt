@@ -8,22 +8,10 @@ use borrow.Author.Needs.{needs}
 use Rattle.expiry.proofs.keep.passes.Statement.{statement}
 use Rattle.expiry.proofs.keep.passes.Tie as tie
 
-mul-u32-le : tie.Need-mul-u32-le
-mul-u32-le c = search needs
-
-add-u32-le : tie.Need-add-u32-le
-add-u32-le c = search needs
-
-u32-le-requires : tie.Need-u32-le-requires
-u32-le-requires c κs = search needs
-
-within-requires : tie.Need-within-requires
-within-requires c κs = search needs
-
 returns : tie.Need-returns
 returns c =
     let s = c .before .before .before in
     c .within .ensures ∙ ap (in-bound (s .args .b)) (c .before .u32-le .ensures ∙ field-part (s .args .size) (s .args .off) (s .args .i * s .args .size) (now (s .args .table)) (s .pre .0) (s .pre .1))
 
 pub passes-spec : {M : Type 1} → statement M
-passes-spec = tie.close (tie.spec mul-u32-le add-u32-le u32-le-requires within-requires returns)
+passes-spec = tie.close (tie.spec (λ c. search needs) (λ c. search needs) (λ c κs. search needs) (λ c κs. search needs) returns)

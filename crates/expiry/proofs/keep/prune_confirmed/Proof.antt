@@ -31,15 +31,6 @@ height-recent : (h m : ℕ) → m ≡ h - columns → (b : List ℕ) → passing
 unfolding in-bound confirmed-of
 height-recent h m e b = ap (λ (n : ℕ). leb n (field 32 b)) e ∙ recent h (field 32 b)
 
-cast-far : tie.Need-cast-far
-cast-far c = search needs
-
-keep-passing-requires : tie.Need-keep-passing-requires
-keep-passing-requires c κs = search needs
-
-same-length : tie.Need-same-length
-same-length c = search needs
-
 returns : tie.Need-returns
 returns c =
     let s = c .before .before .before .before .before .before in
@@ -52,4 +43,4 @@ returns c =
     (k .0 ∙ ap length e, k .1 ∙ ap (λ (rs : List (List ℕ)). laid confirmed-size (s .args .used) rs xs) e)
 
 pub prune-confirmed-spec : {M : Type 1} → statement M
-prune-confirmed-spec = tie.close (tie.spec cast-far keep-passing-requires same-length returns)
+prune-confirmed-spec = tie.close (tie.spec (λ c. search needs) (λ c κs. search needs) (λ c. search needs) returns)

@@ -5,12 +5,6 @@ use borrow.Author.Needs.{needs}
 use Rattle.expiry.proofs.keep.within.Statement.{statement}
 use Rattle.expiry.proofs.keep.within.Tie as tie
 
-enum-known-b : tie.Need-enum-known-b
-enum-known-b c = search needs
-
-enum-known-b-2 : tie.Need-enum-known-b-2
-enum-known-b-2 c = search needs
-
 returns : tie.Need-returns
 unfolding in-bound
 returns c = sym (rw (c .before .b .given .1))
@@ -20,4 +14,4 @@ unfolding in-bound
 returns-2 c = sym (rw (c .before .b2 .given .1))
 
 pub within-spec : {M : Type 1} → statement M
-within-spec = tie.close (tie.spec enum-known-b enum-known-b-2 returns returns-2)
+within-spec = tie.close (tie.spec (λ c. search needs) (λ c. search needs) returns returns-2)

@@ -26,18 +26,6 @@ reach-is n =
     let a = start n .args in
     n .outwaited .ensures ∙ ap (λ (e : ℕ). min columns ((a .h .0 - e) / a .width .0)) (n .before .pending-at .ensures .1 .0)
 
-pending-at-requires : tie.Need-pending-at-requires
-pending-at-requires c κs = search needs
-
-outwaited-requires : tie.Need-outwaited-requires
-outwaited-requires c κs = search needs
-
-put-field-requires : tie.Need-put-field-requires
-put-field-requires c κs = search needs
-
-same-length : tie.Need-same-length
-same-length c = search needs
-
 returns : tie.Need-returns
 returns c =
     let n = c .before .before .before .before .before .before in
@@ -46,9 +34,6 @@ returns c =
     c .before .before .put-field .ensures
     ∙ ap (λ (w : List ℕ). laid (s .args .size) (s .args .used) (set (records (s .args .size) (s .args .used) xs) (s .args .i) w) xs)
     (raised-yes (s .args .width .0) (s .args .h .0) _ _ (rec n) (n .before .pending-at .ensures .1 .1) (reach-is n) (c .before .before .before .before .if1 .taken))
-
-same-length-2 : tie.Need-same-length-2
-same-length-2 c = search needs
 
 returns-2 : tie.Need-returns-2
 returns-2 c =
@@ -63,4 +48,4 @@ returns-2 c =
     ∙ laid-same (s .args .size) (s .args .used) xs (s .pre .1 .1 .1))
 
 pub raise-one-spec : {M : Type 1} → statement M
-raise-one-spec = tie.close (tie.spec pending-at-requires outwaited-requires put-field-requires same-length returns same-length-2 returns-2)
+raise-one-spec = tie.close (tie.spec (λ c κs. search needs) (λ c κs. search needs) (λ c κs. search needs) (λ c. search needs) returns (λ c. search needs) returns-2)

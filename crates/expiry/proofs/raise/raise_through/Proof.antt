@@ -25,12 +25,6 @@ loop-holds c = (let s = c .before in changing-none (raised (s .args .width .0) (
 raise-one-requires : tie.Need-raise-one-requires Inv-loop μ-loop
 raise-one-requires c κs = (let l = kept (c .before .before) in omega arith)
 
-add-i : tie.Need-add-i Inv-loop μ-loop
-add-i c = omega arith
-
-loop-less : tie.Need-loop-less Inv-loop μ-loop
-loop-less c = omega arith
-
 loop-again : tie.Need-loop-again Inv-loop μ-loop
 loop-again c =
     let l = c .before .before .before .before .before in
@@ -49,4 +43,4 @@ returns c =
     changing-end (raised (s .args .width .0) (s .args .h .0)) (s .args .size) (s .args .used) (now (s .args .table)) (l .loop .table) (rw e at (l .loop .inv))
 
 pub raise-through-spec : {M : Type 1} → statement M
-raise-through-spec = tie.close (tie.spec Inv-loop μ-loop loop-holds raise-one-requires add-i loop-less loop-again same-length returns)
+raise-through-spec = tie.close (tie.spec Inv-loop μ-loop loop-holds raise-one-requires (λ c. omega arith) (λ c. omega arith) loop-again same-length returns)

@@ -18,45 +18,15 @@ start k = k .before .before .before .before .before .before .before .before
 abbrev given : tie.Start → Lent
 given s = let a = s .args in lent (now (a .confirmed)) (now (a .resolved)) (now (a .pending)) (now (a .recent))
 
-refused-requires : tie.Need-refused-requires
-refused-requires c κs = search needs
-
 returns : tie.Need-returns
 returns c =
     let s = c .before .before .before .before .before .before .before in
     few-confirmed _ _ (given s) (now (s .args .bytes)) (c .refused .result) (c .refused .ensures) (omega arith)
 
-refused-requires-2 : tie.Need-refused-requires-2
-refused-requires-2 c κs = search needs
-
 returns-2 : tie.Need-returns-2
 returns-2 c =
     let s = c .before .before .before .before .before .before .before .before in
     few-resolved _ _ (given s) (now (s .args .bytes)) (c .refused2 .result) (c .refused2 .ensures) (omega arith) (omega arith)
-
-check-requires : tie.Need-check-requires
-check-requires c κs = search needs
-
-enum-told : tie.Need-enum-told
-enum-told c = search needs
-
-refused-requires-3 : tie.Need-refused-requires-3
-refused-requires-3 c κs = search needs
-
-enum-known-header : tie.Need-enum-known-header
-enum-known-header c = search needs
-
-refused-requires-4 : tie.Need-refused-requires-4
-refused-requires-4 c κs = search needs
-
-enum-told-2 : tie.Need-enum-told-2
-enum-told-2 c = search needs
-
-refused-requires-5 : tie.Need-refused-requires-5
-refused-requires-5 c κs = search needs
-
-enum-known-header-2 : tie.Need-enum-known-header-2
-enum-known-header-2 c = search needs
 
 take-in-requires : tie.Need-take-in-requires
 unfolding said
@@ -88,18 +58,6 @@ returns-5 c =
     file-refused _ _ (given s) (now (s .args .bytes)) (omega arith) (omega arith) (c .refused5 .result) _ (c .refused5 .ensures)
     (read-as _ (k .check .result) (now (s .args .bytes)) _ (c .before .enum-told2 .given .1) (k .check .ensures))
 
-same-length : tie.Need-same-length
-same-length c = search needs
-
-same-length-2 : tie.Need-same-length-2
-same-length-2 c = search needs
-
-same-length-3 : tie.Need-same-length-3
-same-length-3 c = search needs
-
-same-length-4 : tie.Need-same-length-4
-same-length-4 c = search needs
-
 returns-6 : tie.Need-returns-6
 unfolding said
 returns-6 c =
@@ -114,24 +72,24 @@ pub from-history-bytes-spec : {M : Type 1} → statement M
 from-history-bytes-spec =
     tie.close
     (tie.spec
-    refused-requires
+    (λ c κs. search needs)
     returns
-    refused-requires-2
+    (λ c κs. search needs)
     returns-2
-    check-requires
-    enum-told
-    refused-requires-3
-    enum-known-header
-    refused-requires-4
-    enum-told-2
-    refused-requires-5
-    enum-known-header-2
+    (λ c κs. search needs)
+    (λ c. search needs)
+    (λ c κs. search needs)
+    (λ c. search needs)
+    (λ c κs. search needs)
+    (λ c. search needs)
+    (λ c κs. search needs)
+    (λ c. search needs)
     take-in-requires
     returns-3
     returns-4
     returns-5
-    same-length
-    same-length-2
-    same-length-3
-    same-length-4
+    (λ c. search needs)
+    (λ c. search needs)
+    (λ c. search needs)
+    (λ c. search needs)
     returns-6)

@@ -6,12 +6,9 @@ use Rattle.rules.specs.Memory.{state-of}
 use Rattle.history.proofs.read.refused.Statement.{statement}
 use Rattle.history.proofs.read.refused.Tie as tie
 
-empty-requires : tie.Need-empty-requires
-empty-requires c κs = search needs
-
 returns : tie.Need-returns
 unfolding state-of fresh
 returns c = (refl, c .empty .ensures)
 
 pub refused-spec : {M : Type 1} → statement M
-refused-spec = tie.close (tie.spec empty-requires returns)
+refused-spec = tie.close (tie.spec (λ c κs. search needs) returns)

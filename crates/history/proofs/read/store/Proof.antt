@@ -71,21 +71,6 @@ recent-from h xs e =
     ∙ records-taken confirmed-size (a .m) (drop at s) (simp length-drop (omega (arith, long h)))
     ∙ ap₂ (λ (i j : ℕ). records confirmed-size (a .m) (drop (i + buckets-size + 4 + a .n * j + 4) s)) (h .before .header-len .ensures .0) (h .record-size2 .ensures .0)
 
-record-size-requires : tie.Need-record-size-requires
-record-size-requires c κs = search needs
-
-header-len-requires : tie.Need-header-len-requires
-header-len-requires c κs = search needs
-
-add-first : tie.Need-add-first
-add-first c = search needs
-
-add-first-2 : tie.Need-add-first-2
-add-first-2 c = search needs
-
-record-size-requires-2 : tie.Need-record-size-requires-2
-record-size-requires-2 c κs = search needs
-
 mul-len : tie.Need-mul-len
 mul-len c = omega (arith, long c)
 
@@ -100,9 +85,6 @@ load-buckets-requires c κs =
     let h = c .before .before in
     let e = h .before .header-len .ensures .0 in
     ((omega (arith, long h), start h .pre .1 .0), ap (λ (i : ℕ). is-read (read-buckets rates (drop i (now (start h .args .bytes))))) e ∙ known h .rows)
-
-part-requires : tie.Need-part-requires
-part-requires c κs = search needs
 
 load-table-requires : tie.Need-load-table-requires
 load-table-requires c κs =
@@ -121,12 +103,6 @@ load-table-requires c κs =
       ),
     )
 
-mul-part : tie.Need-mul-part
-mul-part c = search needs
-
-part-requires-2 : tie.Need-part-requires-2
-part-requires-2 c κs = search needs
-
 load-table-requires-2 : tie.Need-load-table-requires-2
 load-table-requires-2 c κs =
     let h = c .before .before .before .before .before .before .before .before .before .before .before .before .before .before in
@@ -141,18 +117,6 @@ load-table-requires-2 c κs =
         ),
       ),
     )
-
-same-length : tie.Need-same-length
-same-length c = search needs
-
-same-length-2 : tie.Need-same-length-2
-same-length-2 c = search needs
-
-same-length-3 : tie.Need-same-length-3
-same-length-3 c = search needs
-
-same-length-4 : tie.Need-same-length-4
-same-length-4 c = search needs
 
 returns : tie.Need-returns
 returns c =
@@ -179,22 +143,22 @@ pub store-spec : {M : Type 1} → statement M
 store-spec =
     tie.close
     (tie.spec
-    record-size-requires
-    header-len-requires
-    add-first
-    add-first-2
-    record-size-requires-2
+    (λ c κs. search needs)
+    (λ c κs. search needs)
+    (λ c. search needs)
+    (λ c. search needs)
+    (λ c κs. search needs)
     mul-len
     add-next
     add-next-2
     load-buckets-requires
-    part-requires
+    (λ c κs. search needs)
     load-table-requires
-    mul-part
-    part-requires-2
+    (λ c. search needs)
+    (λ c κs. search needs)
     load-table-requires-2
-    same-length
-    same-length-2
-    same-length-3
-    same-length-4
+    (λ c. search needs)
+    (λ c. search needs)
+    (λ c. search needs)
+    (λ c. search needs)
     returns)

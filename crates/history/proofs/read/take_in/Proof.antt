@@ -19,35 +19,11 @@ memory s = let a = s .args in lent (now (a .confirmed)) (now (a .resolved)) (now
 most : (k : tie.After-capacity) → k .capacity .result ≡ pending-capacity (board-of (k .before .before .before .before .before .before .before .before .args .on)) (now (k .before .before .before .before .before .before .before .before .args .pending))
 most k = k .capacity .ensures ∙ ap (λ (z : ℕ). capacity z pending-most (now (k .before .before .before .before .before .before .before .before .args .pending))) (k .before .record-size .ensures .0)
 
-record-size-requires : tie.Need-record-size-requires
-record-size-requires c κs = search needs
-
-capacity-requires : tie.Need-capacity-requires
-capacity-requires c κs = search needs
-
-refused-requires : tie.Need-refused-requires
-refused-requires c κs = search needs
-
-same-length : tie.Need-same-length
-same-length c = search needs
-
 returns : tie.Need-returns
 returns c =
     let s = c .before .before .before .before .before .before .before .before .before .before in
     let a = s .args in
     no-pending-room (version-told (a .version)) (board-of (a .on)) (now (a .bytes)) (a .last) (a .n) (a .m) (memory s) (c .refused .result) (c .refused .ensures) (omega (arith, most (c .before .before), c .before .if1 .taken))
-
-capacity-requires-2 : tie.Need-capacity-requires-2
-capacity-requires-2 c κs = search needs
-
-refused-requires-2 : tie.Need-refused-requires-2
-refused-requires-2 c κs = search needs
-
-same-length-2 : tie.Need-same-length-2
-same-length-2 c = search needs
-
-same-length-3 : tie.Need-same-length-3
-same-length-3 c = search needs
 
 returns-2 : tie.Need-returns-2
 returns-2 c =
@@ -69,18 +45,6 @@ store-requires c κs =
       ),
     )
 
-same-length-4 : tie.Need-same-length-4
-same-length-4 c = search needs
-
-same-length-5 : tie.Need-same-length-5
-same-length-5 c = search needs
-
-same-length-6 : tie.Need-same-length-6
-same-length-6 c = search needs
-
-same-length-7 : tie.Need-same-length-7
-same-length-7 c = search needs
-
 returns-3 : tie.Need-returns-3
 returns-3 c =
     let s = c .before .before .before .before .before .before .before .before .before .before .before .before .before .before .before .before .before .before .before .before .before .before .before .before .before in
@@ -93,19 +57,19 @@ pub take-in-spec : {M : Type 1} → statement M
 take-in-spec =
     tie.close
     (tie.spec
-    record-size-requires
-    capacity-requires
-    refused-requires
-    same-length
+    (λ c κs. search needs)
+    (λ c κs. search needs)
+    (λ c κs. search needs)
+    (λ c. search needs)
     returns
-    capacity-requires-2
-    refused-requires-2
-    same-length-2
-    same-length-3
+    (λ c κs. search needs)
+    (λ c κs. search needs)
+    (λ c. search needs)
+    (λ c. search needs)
     returns-2
     store-requires
-    same-length-4
-    same-length-5
-    same-length-6
-    same-length-7
+    (λ c. search needs)
+    (λ c. search needs)
+    (λ c. search needs)
+    (λ c. search needs)
     returns-3)

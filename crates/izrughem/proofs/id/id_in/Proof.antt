@@ -14,12 +14,6 @@ use Rattle.izrughem.proofs.id.id_in.Tie as tie
 over : (xs ys : List ℕ) → length ys ≡ length xs → sets xs 0 ys ≡ ys
 over xs ys e = sets-eq ys xs 0 (omega arith) ∙ rw (drop-of-length-le xs {i = 0 + length ys} (omega arith)) (append-nil ys)
 
-slice-aggregate-put-bytes : tie.Need-slice-aggregate-put-bytes
-slice-aggregate-put-bytes c = search needs
-
-put-bytes-requires : tie.Need-put-bytes-requires
-put-bytes-requires c κs = search needs
-
 returns : tie.Need-returns
 returns c = let s = c .before .before .before .before in c .before .put-bytes .ensures ∙ over _ (now (s .args .id)) (s .pre)
 
@@ -27,6 +21,6 @@ pub id-in-spec : {M : Type 1} → statement M
 id-in-spec =
     tie.close
     (tie.spec
-    slice-aggregate-put-bytes
-    put-bytes-requires
+    (λ c. search needs)
+    (λ c κs. search needs)
     returns)

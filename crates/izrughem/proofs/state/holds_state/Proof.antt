@@ -10,15 +10,6 @@ returns : tie.Need-returns
 unfolding holds-state
 returns c = sym (rw (lt-leb 4 _ (c .if1 .taken)))
 
-shared-slice-read-flag : tie.Need-shared-slice-read-flag
-shared-slice-read-flag c = search needs
-
-shared-slice-read-height : tie.Need-shared-slice-read-height
-shared-slice-read-height c = search needs
-
-holds-last-requires : tie.Need-holds-last-requires
-holds-last-requires c κs = search needs
-
 returns-2 : tie.Need-returns-2
 unfolding holds-state
 returns-2 c = let e = c .before .before .before in c .holds-last .ensures ∙ sym (rw (le-leb 4 _ (e .if1 .left)))
@@ -28,7 +19,7 @@ holds-state-spec =
     tie.close
     (tie.spec
     returns
-    shared-slice-read-flag
-    shared-slice-read-height
-    holds-last-requires
+    (λ c. search needs)
+    (λ c. search needs)
+    (λ c κs. search needs)
     returns-2)

@@ -10,12 +10,9 @@ returns : tie.Need-returns
 unfolding last-in
 returns c = sym (rw (eq-eqb (c .before .args .flag) 0 (c .if1 .taken)))
 
-cast-t4 : tie.Need-cast-t4
-cast-t4 c = search needs
-
 returns-2 : tie.Need-returns-2
 unfolding last-in
 returns-2 c = sym (rw (ne-eqb (c .before .args .flag) 0 (c .if1 .left)))
 
 pub last-in-spec : {M : Type 1} → statement M
-last-in-spec = tie.close (tie.spec returns cast-t4 returns-2)
+last-in-spec = tie.close (tie.spec returns (λ c. search needs) returns-2)

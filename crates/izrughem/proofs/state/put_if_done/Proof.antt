@@ -10,15 +10,9 @@ returns : tie.Need-returns
 unfolding put-if-done
 returns c = (refl, sym (rw (ne-eqb (c .before .before .args .number) 0 (c .if1 .taken))))
 
-put-state-requires : tie.Need-put-state-requires
-put-state-requires c κs = search needs
-
-same-length : tie.Need-same-length
-same-length c = search needs
-
 returns-2 : tie.Need-returns-2
 unfolding put-if-done
 returns-2 c = let e = c .before .before .before .before in (refl, c .before .before .put-state .ensures ∙ sym (rw (eq-eqb (e .before .before .args .number) 0 (e .if1 .left))))
 
 pub put-if-done-spec : {M : Type 1} → statement M
-put-if-done-spec = tie.close (tie.spec returns put-state-requires same-length returns-2)
+put-if-done-spec = tie.close (tie.spec returns (λ c κs. search needs) (λ c. search needs) returns-2)

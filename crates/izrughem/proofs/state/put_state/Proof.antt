@@ -7,26 +7,11 @@ use Rattle.izrughem.proofs.Words.{stored}
 use Rattle.izrughem.proofs.state.put_state.Statement.{statement}
 use Rattle.izrughem.proofs.state.put_state.Tie as tie
 
-flag-of-requires : tie.Need-flag-of-requires
-flag-of-requires c κs = search needs
-
-slice-write-words : tie.Need-slice-write-words
-slice-write-words c = search needs
-
-height-of-requires : tie.Need-height-of-requires
-height-of-requires c κs = search needs
-
 slice-write-words-2 : tie.Need-slice-write-words-2
 slice-write-words-2 c = simp length-set (omega arith)
 
 slice-write-words-3 : tie.Need-slice-write-words-3
 slice-write-words-3 c = simp length-set (omega arith)
-
-slice-write-words-4 : tie.Need-slice-write-words-4
-slice-write-words-4 c = search needs
-
-same-length : tie.Need-same-length
-same-length c = search needs
 
 returns : tie.Need-returns
 returns c =
@@ -37,11 +22,11 @@ pub put-state-spec : {M : Type 1} → statement M
 put-state-spec =
     tie.close
     (tie.spec
-    flag-of-requires
-    slice-write-words
-    height-of-requires
+    (λ c κs. search needs)
+    (λ c. search needs)
+    (λ c κs. search needs)
     slice-write-words-2
     slice-write-words-3
-    slice-write-words-4
-    same-length
+    (λ c. search needs)
+    (λ c. search needs)
     returns)

@@ -7,21 +7,6 @@ use Rattle.izrughem.specs.Words.{put-if-done}
 use Rattle.izrughem.proofs.tell.tell_reading.Statement.{statement}
 use Rattle.izrughem.proofs.tell.tell_reading.Tie as tie
 
-carry-version-requires : tie.Need-carry-version-requires
-carry-version-requires c κs = search needs
-
-number-requires : tie.Need-number-requires
-number-requires c κs = search needs
-
-put-if-done-requires : tie.Need-put-if-done-requires
-put-if-done-requires c κs = search needs
-
-same-length : tie.Need-same-length
-same-length c = search needs
-
-same-length-2 : tie.Need-same-length-2
-same-length-2 c = search needs
-
 returns : tie.Need-returns
 returns c =
     let put = c .before .before in
@@ -32,4 +17,4 @@ returns c =
 
 pub tell-reading-spec : {M : Type 1} → statement M
 tell-reading-spec =
-    tie.close (tie.spec carry-version-requires number-requires put-if-done-requires same-length same-length-2 returns)
+    tie.close (tie.spec (λ c κs. search needs) (λ c κs. search needs) (λ c κs. search needs) (λ c. search needs) (λ c. search needs) returns)

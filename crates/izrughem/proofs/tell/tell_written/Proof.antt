@@ -5,27 +5,6 @@ use Rattle.izrughem.specs.Calls.{carry, length-carried}
 use Rattle.izrughem.proofs.tell.tell_written.Statement.{statement}
 use Rattle.izrughem.proofs.tell.tell_written.Tie as tie
 
-number-requires : tie.Need-number-requires
-number-requires c κs = search needs
-
-enum-told : tie.Need-enum-told
-enum-told c = search needs
-
-slice-write-carried : tie.Need-slice-write-carried
-slice-write-carried c = search needs
-
-enum-told-2 : tie.Need-enum-told-2
-enum-told-2 c = search needs
-
-enum-known-answer : tie.Need-enum-known-answer
-enum-known-answer c = search needs
-
-slice-write-carried-2 : tie.Need-slice-write-carried-2
-slice-write-carried-2 c = search needs
-
-same-length : tie.Need-same-length
-same-length c = search needs
-
 returns : tie.Need-returns
 unfolding length-carried carry
 returns c = let e = c .enum-told .given .1 in (c .before .before .number .ensures, sym (rw e))
@@ -33,9 +12,6 @@ returns c = let e = c .enum-told .given .1 in (c .before .before .number .ensure
 returns-2 : tie.Need-returns-2
 unfolding length-carried carry
 returns-2 c = let e = c .enum-told2 .given .1 in (c .before .before .number .ensures, sym (rw e))
-
-same-length-2 : tie.Need-same-length-2
-same-length-2 c = search needs
 
 returns-3 : tie.Need-returns-3
 unfolding length-carried carry
@@ -45,14 +21,14 @@ pub tell-written-spec : {M : Type 1} → statement M
 tell-written-spec =
     tie.close
     (tie.spec
-    number-requires
-    enum-told
-    slice-write-carried
-    enum-told-2
-    enum-known-answer
-    slice-write-carried-2
-    same-length
+    (λ c κs. search needs)
+    (λ c. search needs)
+    (λ c. search needs)
+    (λ c. search needs)
+    (λ c. search needs)
+    (λ c. search needs)
+    (λ c. search needs)
     returns
     returns-2
-    same-length-2
+    (λ c. search needs)
     returns-3)

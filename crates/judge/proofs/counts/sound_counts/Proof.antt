@@ -28,15 +28,6 @@ returns c = rw (lt-leb _ _ (c .if1 .taken))
 loop-holds : tie.Need-loop-holds Inv-loop μ-loop
 loop-holds c = (omega arith, refl)
 
-mul-sound-count : tie.Need-mul-sound-count Inv-loop μ-loop
-mul-sound-count c = omega arith
-
-shared-slice-read-sound-count : tie.Need-shared-slice-read-sound-count Inv-loop μ-loop
-shared-slice-read-sound-count c = omega arith
-
-sound-count-requires : tie.Need-sound-count-requires Inv-loop μ-loop
-sound-count-requires c κs = tt
-
 returns-2 : tie.Need-returns-2 Inv-loop μ-loop
 unfolding sound-counts
 returns-2 c =
@@ -44,12 +35,6 @@ returns-2 c =
     let xs = now (l .before .before .before .args .counts) in
     let e : sound-count (getD xs (l .loop .i) nan) ≡ false = sym (c .before .sound-count .ensures) ∙ not-true _ (c .if2 .taken) in
     rw (le-leb _ _ (l .before .if1 .left), l .loop .inv .1, every-first sound-count xs places-of-counts (l .loop .i) nan (l .before .if1 .left) (c .before .before .before .loop-test .taken), e)
-
-add-i : tie.Need-add-i Inv-loop μ-loop
-add-i c = omega arith
-
-loop-less : tie.Need-loop-less Inv-loop μ-loop
-loop-less c = omega arith
 
 loop-again : tie.Need-loop-again Inv-loop μ-loop
 loop-again c =
@@ -69,4 +54,4 @@ returns-3 c =
 
 pub sound-counts-spec : {M : Type 1} → statement M
 sound-counts-spec =
-    tie.close (tie.spec Inv-loop μ-loop returns loop-holds mul-sound-count shared-slice-read-sound-count sound-count-requires returns-2 add-i loop-less loop-again returns-3)
+    tie.close (tie.spec Inv-loop μ-loop returns loop-holds (λ c. omega arith) (λ c. omega arith) (λ c κs. tt) returns-2 (λ c. omega arith) (λ c. omega arith) loop-again returns-3)

@@ -39,17 +39,8 @@ told c =
 loop-holds : tie.Need-loop-holds Inv-loop μ-loop
 loop-holds c = (omega arith, refl)
 
-one-in-range-requires : tie.Need-one-in-range-requires Inv-loop μ-loop
-one-in-range-requires c κs = omega arith
-
 returns : tie.Need-returns Inv-loop μ-loop
 returns c = sym (every-map pending-of in-range (rs (c .before .before .before .before .before)) ∙ told (c .before) ∙ rw (not-true (c .before .one-in-range .result) (c .if1 .taken)))
-
-add-i : tie.Need-add-i Inv-loop μ-loop
-add-i c = omega arith
-
-loop-less : tie.Need-loop-less Inv-loop μ-loop
-loop-less c = omega arith
 
 loop-again : tie.Need-loop-again Inv-loop μ-loop
 loop-again c = (omega arith, told (c .before) ∙ rw (not-false (c .before .one-in-range .result) (c .if1 .left)))
@@ -60,4 +51,4 @@ returns-2 c =
     sym (every-map pending-of in-range (rs s) ∙ c .before .loop .inv .1 ∙ every-end (λ b. in-range (pending-of b)) (rs s) (c .before .loop .i) (rw length-records (omega arith)))
 
 pub in-range-spec : {M : Type 1} → statement M
-in-range-spec = tie.close (tie.spec Inv-loop μ-loop loop-holds one-in-range-requires returns add-i loop-less loop-again returns-2)
+in-range-spec = tie.close (tie.spec Inv-loop μ-loop loop-holds (λ c κs. omega arith) returns (λ c. omega arith) (λ c. omega arith) loop-again returns-2)

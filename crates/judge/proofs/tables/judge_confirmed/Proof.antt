@@ -4,12 +4,9 @@ use borrow.Author.Needs.{needs}
 use Rattle.judge.proofs.tables.judge_confirmed.Statement.{statement}
 use Rattle.judge.proofs.tables.judge_confirmed.Tie as tie
 
-judge-table-requires : tie.Need-judge-table-requires
-judge-table-requires c κs = search needs
-
 returns : tie.Need-returns
 unfolding sound-confirmed
 returns c = c .judge-table .ensures
 
 pub judge-confirmed-spec : {M : Type 1} → statement M
-judge-confirmed-spec = tie.close (tie.spec judge-table-requires returns)
+judge-confirmed-spec = tie.close (tie.spec (λ c κs. search needs) returns)

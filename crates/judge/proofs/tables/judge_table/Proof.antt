@@ -20,9 +20,6 @@ fits-in c = rw (c .before .capacity .ensures) at (c .if1 .left)
 room : (c : tie.Else1) → (start c .args .used * start c .args .size ≤ c .before .capacity .result * start c .args .size) × (c .before .capacity .result * start c .args .size ≤ length (now (start c .args .table)))
 room c = let s = start c in cap-room (s .args .size) (s .args .most) (s .args .used) (c .before .capacity .result) (now (s .args .table)) (c .before .capacity .ensures) (c .if1 .left)
 
-capacity-requires : tie.Need-capacity-requires
-capacity-requires c κs = search needs
-
 returns : tie.Need-returns
 unfolding sound-table
 returns c =
@@ -54,4 +51,4 @@ returns-3 c =
     sym (rw (le-leb _ _ (fits-in e), sym (c .before .ids-rise .ensures) ∙ c .if2 .left))
 
 pub judge-table-spec : {M : Type 1} → statement M
-judge-table-spec = tie.close (tie.spec capacity-requires returns ids-rise-requires mul-zero-between mul-zero-between-2 zero-between-requires returns-2 returns-3)
+judge-table-spec = tie.close (tie.spec (λ c κs. search needs) returns ids-rise-requires mul-zero-between mul-zero-between-2 zero-between-requires returns-2 returns-3)

@@ -22,20 +22,11 @@ module _ (q : Pending) (b t : ℕ) (e : b ≡ q .bucket) (f : t ≡ q .through) 
   unfolding in-range
   a-bucket h = rw (f, le-leb (q .bucket) last-bucket (omega arith))
 
-pending-at-requires : tie.Need-pending-at-requires
-pending-at-requires c κs = search needs
-
-cast-if1 : tie.Need-cast-if1
-cast-if1 c = search needs
-
 returns : tie.Need-returns
 returns c = let r = c .before .before .pending-at in no-bucket _ (r .result .bucket) (r .result .through) (r .ensures .0) (r .ensures .1 .1) (omega (arith, c .if1 .taken))
-
-cast-result : tie.Need-cast-result
-cast-result c = search needs
 
 returns-2 : tie.Need-returns-2
 returns-2 c = let r = c .before .before .before .pending-at in a-bucket _ (r .result .bucket) (r .result .through) (r .ensures .0) (r .ensures .1 .1) (c .before .if1 .left)
 
 pub one-in-range-spec : {M : Type 1} → statement M
-one-in-range-spec = tie.close (tie.spec pending-at-requires cast-if1 returns cast-result returns-2)
+one-in-range-spec = tie.close (tie.spec (λ c κs. search needs) (λ c. search needs) returns (λ c. search needs) returns-2)

@@ -23,18 +23,6 @@ abbrev μ-loop : tie.MeasureT-loop
 loop-holds : tie.Need-loop-holds Inv-loop μ-loop
 loop-holds c = let a = c .before .args in (zero-le, fine-begin (a .s .now) (a .at) (omega arith))
 
-mul-part : tie.Need-mul-part Inv-loop μ-loop
-mul-part c = omega arith
-
-add-part : tie.Need-add-part Inv-loop μ-loop
-add-part c = omega arith
-
-part-requires : tie.Need-part-requires Inv-loop μ-loop
-part-requires c κs = search needs
-
-rate-at-requires : tie.Need-rate-at-requires Inv-loop μ-loop
-rate-at-requires c κs = omega arith
-
 bucket-ok-requires : tie.Need-bucket-ok-requires Inv-loop μ-loop
 bucket-ok-requires c κs =
     let a = c .before .before .before .before .before .args in
@@ -52,12 +40,6 @@ told c =
     (ap (λ (r : ℕ). is-read (read-buckets (r ∷ []) (drop p (a .s .now)))) (sym (c .before .rate-at .ensures))
     ∙ sym (bucket-part (a .s .now) p (now (c .before .before .part .result)) (c .before .before .part .ensures) (omega arith) (c .before .rate-at .result .0))
     ∙ sym (c .bucket-ok .ensures))
-
-add-i : tie.Need-add-i Inv-loop μ-loop
-add-i c = omega arith
-
-loop-less : tie.Need-loop-less Inv-loop μ-loop
-loop-less c = omega arith
 
 loop-again : tie.Need-loop-again Inv-loop μ-loop
 loop-again c = (omega arith, told (c .before) ∙ rw (c .if1 .taken))
@@ -78,13 +60,13 @@ buckets-ok-spec =
     Inv-loop
     μ-loop
     loop-holds
-    mul-part
-    add-part
-    part-requires
-    rate-at-requires
+    (λ c. omega arith)
+    (λ c. omega arith)
+    (λ c κs. search needs)
+    (λ c κs. omega arith)
     bucket-ok-requires
-    add-i
-    loop-less
+    (λ c. omega arith)
+    (λ c. omega arith)
     loop-again
     returns
     returns-2)

@@ -32,15 +32,6 @@ loop-holds : tie.Need-loop-holds Inv-loop μ-loop
 unfolding rows-at
 loop-holds c = (zero-le, ((refl, refl), (refl, refl)))
 
-mul-part : tie.Need-mul-part Inv-loop μ-loop
-mul-part c = omega arith
-
-add-part : tie.Need-add-part Inv-loop μ-loop
-add-part c = omega arith
-
-part-requires : tie.Need-part-requires Inv-loop μ-loop
-part-requires c κs = search needs
-
 load-bucket-requires : tie.Need-load-bucket-requires Inv-loop μ-loop
 load-bucket-requires c κs =
     let s = c .before .before .before .before .before .before .before .before in
@@ -49,12 +40,6 @@ load-bucket-requires c κs =
     let e = c .before .before .part .ensures in
     let f = bucket-long (s .args .s .now) (s .args .at + 408 * i) b e (omega arith) in
     ((omega (arith, f), (omega arith, (omega arith, omega arith))), rows-read (s .args .s .now) (s .args .at) (omega arith) (s .pre .1) i (omega arith) b e)
-
-add-i : tie.Need-add-i Inv-loop μ-loop
-add-i c = omega arith
-
-loop-less : tie.Need-loop-less Inv-loop μ-loop
-loop-less c = omega arith
 
 loop-again : tie.Need-loop-again Inv-loop μ-loop
 loop-again c =
@@ -90,12 +75,12 @@ load-buckets-spec =
     Inv-loop
     μ-loop
     loop-holds
-    mul-part
-    add-part
-    part-requires
+    (λ c. omega arith)
+    (λ c. omega arith)
+    (λ c κs. search needs)
     load-bucket-requires
-    add-i
-    loop-less
+    (λ c. omega arith)
+    (λ c. omega arith)
     loop-again
     same-length
     same-length-2

@@ -6,9 +6,6 @@ use borrow.Author.Needs.{needs}
 use Rattle.parse.proofs.head.ends.Statement.{statement}
 use Rattle.parse.proofs.head.ends.Tie as tie
 
-counted-requires : tie.Need-counted-requires
-counted-requires c κs = search needs
-
 returns : tie.Need-returns
 unfolding header-says
 returns c = sym (with-yes _ _ (sym (c .before .counted .ensures) ∙ c .if1 .taken))
@@ -18,4 +15,4 @@ unfolding header-says
 returns-2 c = sym (with-no _ _ (sym (c .before .counted .ensures) ∙ c .if1 .left))
 
 pub ends-spec : {M : Type 1} → statement M
-ends-spec = tie.close (tie.spec counted-requires returns returns-2)
+ends-spec = tie.close (tie.spec (λ c κs. search needs) returns returns-2)

@@ -13,19 +13,10 @@ use borrow.Author.Needs.{needs}
 use Rattle.parse.proofs.head.followed.Statement.{statement}
 use Rattle.parse.proofs.head.followed.Tie as tie
 
-enum-told : tie.Need-enum-told
-enum-told c = search needs
-
-enum-told-2 : tie.Need-enum-told-2
-enum-told-2 c = search needs
-
 returns : tie.Need-returns
 returns c =
     let s = c .before .before .before .before .args .s .now in
     sym (ap (λ (v : FileVersion). is-read (read-after (version-told v) (drop 12 s))) (c .before .enum-told2 .given .1) ∙ after-short s (omega arith) (omega arith))
-
-number-requires : tie.Need-number-requires
-number-requires c κs = search needs
 
 returns-2 : tie.Need-returns-2
 returns-2 c =
@@ -41,4 +32,4 @@ returns-3 c =
 
 pub followed-spec : {M : Type 1} → statement M
 followed-spec =
-    tie.close (tie.spec enum-told enum-told-2 returns number-requires returns-2 returns-3)
+    tie.close (tie.spec (λ c. search needs) (λ c. search needs) returns (λ c κs. search needs) returns-2 returns-3)

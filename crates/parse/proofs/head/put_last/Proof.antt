@@ -12,46 +12,10 @@ use borrow.Author.Needs.{needs}
 use Rattle.parse.proofs.head.put_last.Statement.{statement}
 use Rattle.parse.proofs.head.put_last.Tie as tie
 
-enum-told : tie.Need-enum-told
-enum-told c = search needs
-
-put-u8-requires : tie.Need-put-u8-requires
-put-u8-requires c κs = search needs
-
-add-put-u32 : tie.Need-add-put-u32
-add-put-u32 c = search needs
-
-cast-put-u32 : tie.Need-cast-put-u32
-cast-put-u32 c = search needs
-
-put-u32-requires : tie.Need-put-u32-requires
-put-u32-requires c κs = search needs
-
-enum-known-last : tie.Need-enum-known-last
-enum-known-last c = search needs
-
-put-u8-requires-2 : tie.Need-put-u8-requires-2
-put-u8-requires-2 c κs = search needs
-
-add-put-u32-2 : tie.Need-add-put-u32-2
-add-put-u32-2 c = search needs
-
-put-u32-requires-2 : tie.Need-put-u32-requires-2
-put-u32-requires-2 c κs = search needs
-
-add-put-u32-3 : tie.Need-add-put-u32-3
-add-put-u32-3 c = search needs
-
-cast-put-u32-2 : tie.Need-cast-put-u32-2
-cast-put-u32-2 c = search needs
-
 put-u32-requires-3 : tie.Need-put-u32-requires-3
 put-u32-requires-3 c κs =
     let e : height-length (c .before .before .before .before .before .before .before .before .before .before .before .before .before .args .last) ≡ 4 = ap height-length (c .before .before .before .before .before .before .before .before .before .before .last .given .1) in
     omega (arith, e)
-
-same-length : tie.Need-same-length
-same-length c = search needs
 
 returns : tie.Need-returns
 returns c =
@@ -60,9 +24,6 @@ returns c =
     ∙ ap (λ (l : List ℕ). sets l (a .at + 1) (bytes 4 142)) (c .before .before .before .before .before .before .put-u8 .ensures)
     ∙ put-none (a .out .now) (a .at)
     ∙ ap (λ (l : Last). sets (a .out .now) (a .at) (last-bytes l ++ bytes 4 142)) (sym (c .before .before .before .before .before .before .before .before .enum-told .given .1))
-
-same-length-2 : tie.Need-same-length-2
-same-length-2 c = search needs
 
 returns-2 : tie.Need-returns-2
 returns-2 c =
@@ -78,19 +39,19 @@ pub put-last-spec : {M : Type 1} → statement M
 put-last-spec =
     tie.close
     (tie.spec
-    enum-told
-    put-u8-requires
-    add-put-u32
-    cast-put-u32
-    put-u32-requires
-    enum-known-last
-    put-u8-requires-2
-    add-put-u32-2
-    put-u32-requires-2
-    add-put-u32-3
-    cast-put-u32-2
+    (λ c. search needs)
+    (λ c κs. search needs)
+    (λ c. search needs)
+    (λ c. search needs)
+    (λ c κs. search needs)
+    (λ c. search needs)
+    (λ c κs. search needs)
+    (λ c. search needs)
+    (λ c κs. search needs)
+    (λ c. search needs)
+    (λ c. search needs)
     put-u32-requires-3
-    same-length
+    (λ c. search needs)
     returns
-    same-length-2
+    (λ c. search needs)
     returns-2)

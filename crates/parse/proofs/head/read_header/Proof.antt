@@ -38,9 +38,6 @@ returns : tie.Need-returns
 unfolding header-says begun
 returns c = sym (ap begun (head-short _ (c .before .before .args .s .now) (omega arith)))
 
-part-requires : tie.Need-part-requires
-part-requires c κs = search needs
-
 u64-le-requires : tie.Need-u64-le-requires
 u64-le-requires c κs = let s = c .before .before .before .args .s .now in omega (arith, long-taken 8 s 0 (now (c .part .result)) (c .part .ensures) (omega arith))
 
@@ -56,12 +53,6 @@ returns-3 : tie.Need-returns-3
 unfolding header-says begun
 returns-3 c = sym (ap begun (head-no-version _ _ (magic-room (c .before)) (magic-there (c .before)) (omega arith)))
 
-number-requires : tie.Need-number-requires
-number-requires c κs = search needs
-
-number-of-requires : tie.Need-number-of-requires
-number-of-requires c κs = search needs
-
 returns-4 : tie.Need-returns-4
 unfolding header-says begun
 returns-4 c =
@@ -70,15 +61,6 @@ returns-4 c =
     let v = version-told (a .version) in
     let n : le-at 4 (a .s .now) 8 ≡ v .number → ⊥ = λ e. omega (arith, c .before .before .number .ensures, c .before .number-of .ensures, c .if4 .taken) in
     ap (λ (n : ℕ). bad (unknown-version n)) (c .before .before .number .ensures) ∙ sym (ap begun (head-version v _ (magic-room m) (magic-there m) (omega arith) n))
-
-followed-requires : tie.Need-followed-requires
-followed-requires c κs = search needs
-
-after-len-requires : tie.Need-after-len-requires
-after-len-requires c κs = search needs
-
-add-starts : tie.Need-add-starts
-add-starts c = search needs
 
 starts-requires : tie.Need-starts-requires
 starts-requires c κs =
@@ -108,16 +90,16 @@ read-header-spec =
     tie.close
     (tie.spec
     returns
-    part-requires
+    (λ c κs. search needs)
     u64-le-requires
     returns-2
     returns-3
-    number-requires
-    number-of-requires
+    (λ c κs. search needs)
+    (λ c κs. search needs)
     returns-4
-    followed-requires
-    after-len-requires
-    add-starts
+    (λ c κs. search needs)
+    (λ c κs. search needs)
+    (λ c. search needs)
     starts-requires
     returns-5
     returns-6)

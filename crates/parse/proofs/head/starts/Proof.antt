@@ -18,24 +18,12 @@ use Rattle.parse.proofs.head.starts.Tie as tie
 flag : (p : tie.After-part) → getD (now (p .part .result)) 0 0 ≡ getD (p .before .before .before .args .s .now) (p .before .before .before .args .at) 0
 flag p = let a = p .before .before .before .args in byte-taken 1 (a .s .now) (a .at) (now (p .part .result)) (p .part .ensures) (omega arith)
 
-sub-if1 : tie.Need-sub-if1
-sub-if1 c = search needs
-
 returns : tie.Need-returns
 unfolding header-says begun
 returns c = let a = c .before .before .args in sym (ap begun (no-flag (a .s .now) (a .at) (omega arith) (omega arith)))
 
-part-requires : tie.Need-part-requires
-part-requires c κs = search needs
-
 shared-slice-read-flag : tie.Need-shared-slice-read-flag
 shared-slice-read-flag c = let a = c .before .before .before .before .args in omega (arith, long-taken 1 (a .s .now) (a .at) (now (c .before .part .result)) (c .before .part .ensures) (omega arith))
-
-add-ends : tie.Need-add-ends
-add-ends c = search needs
-
-ends-requires : tie.Need-ends-requires
-ends-requires c κs = search needs
 
 returns-2 : tie.Need-returns-2
 returns-2 c = let a = c .before .before .before .before .before .before .args in c .ends .ensures ∙ ap begun (sym (flag-none (a .s .now) (a .at) (omega arith) (omega (arith, flag (c .before .before .before), c .before .if2 .taken))))
@@ -48,24 +36,9 @@ returns-3 c =
     let g : getD (a .s .now) (a .at) 0 ≡ 1 → ⊥ = λ e. omega (arith, flag (c .before .before .before), c .if3 .taken) in
     sym (ap begun (flag-other (a .s .now) (a .at) (omega arith) f g))
 
-sub-if4 : tie.Need-sub-if4
-sub-if4 c = search needs
-
 returns-4 : tie.Need-returns-4
 unfolding header-says begun
 returns-4 c = let a = c .before .before .before .before .before .before .before .args in sym (ap begun (flag-short (a .s .now) (a .at) (omega arith) (omega (arith, flag (c .before .before .before .before), c .before .if3 .left)) (omega arith)))
-
-add-number : tie.Need-add-number
-add-number c = search needs
-
-number-requires : tie.Need-number-requires
-number-requires c κs = search needs
-
-add-ends-2 : tie.Need-add-ends-2
-add-ends-2 c = search needs
-
-ends-requires-2 : tie.Need-ends-requires-2
-ends-requires-2 c κs = search needs
 
 returns-5 : tie.Need-returns-5
 returns-5 c =
@@ -78,18 +51,18 @@ pub starts-spec : {M : Type 1} → statement M
 starts-spec =
     tie.close
     (tie.spec
-    sub-if1
+    (λ c. search needs)
     returns
-    part-requires
+    (λ c κs. search needs)
     shared-slice-read-flag
-    add-ends
-    ends-requires
+    (λ c. search needs)
+    (λ c κs. search needs)
     returns-2
     returns-3
-    sub-if4
+    (λ c. search needs)
     returns-4
-    add-number
-    number-requires
-    add-ends-2
-    ends-requires-2
+    (λ c. search needs)
+    (λ c κs. search needs)
+    (λ c. search needs)
+    (λ c κs. search needs)
     returns-5)

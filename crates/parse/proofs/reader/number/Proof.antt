@@ -7,9 +7,6 @@ use borrow.Author.Needs.{needs}
 use Rattle.parse.proofs.reader.number.Statement.{statement}
 use Rattle.parse.proofs.reader.number.Tie as tie
 
-part-requires : tie.Need-part-requires
-part-requires c κs = search needs
-
 u32-le-requires : tie.Need-u32-le-requires
 u32-le-requires c κs = let a = c .before .before .args in let n = long-taken 4 (a .s .now) (a .at) (now (c .part .result)) (c .part .ensures) (omega arith) in omega (arith, n)
 
@@ -17,4 +14,4 @@ returns : tie.Need-returns
 returns c = let a = c .before .before .before .args in c .u32-le .ensures ∙ number-taken 4 (a .s .now) (a .at) (now (c .before .part .result)) (c .before .part .ensures)
 
 pub number-spec : {M : Type 1} → statement M
-number-spec = tie.close (tie.spec part-requires u32-le-requires returns)
+number-spec = tie.close (tie.spec (λ c κs. search needs) u32-le-requires returns)

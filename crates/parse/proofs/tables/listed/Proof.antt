@@ -8,26 +8,11 @@ use borrow.Author.Needs.{needs}
 use Rattle.parse.proofs.tables.listed.Statement.{statement}
 use Rattle.parse.proofs.tables.listed.Tie as tie
 
-sub-if1 : tie.Need-sub-if1
-sub-if1 c = search needs
-
-unlisted-requires : tie.Need-unlisted-requires
-unlisted-requires c κs = search needs
-
 returns : tie.Need-returns
 returns c =
     let a = c .before .before .before .args in
     let f = c .unlisted .ensures in
     (f ∙ sym (has-short (a .size) (a .most) (a .s .now) (a .at) (omega arith)), never _ f)
-
-number-requires : tie.Need-number-requires
-number-requires c κs = search needs
-
-cast-n : tie.Need-cast-n
-cast-n c = search needs
-
-unlisted-requires-2 : tie.Need-unlisted-requires-2
-unlisted-requires-2 c κs = search needs
 
 returns-2 : tie.Need-returns-2
 returns-2 c =
@@ -35,21 +20,12 @@ returns-2 c =
     let f = c .unlisted2 .ensures in
     (f ∙ sym (has-many (a .size) (a .most) (a .s .now) (a .at) (omega (arith, c .before .before .number .ensures, c .before .if2 .taken))), never _ f)
 
-sub-if3 : tie.Need-sub-if3
-sub-if3 c = search needs
-
-sub-if3-2 : tie.Need-sub-if3-2
-sub-if3-2 c = search needs
-
 mul-if3 : tie.Need-mul-if3
 mul-if3 c =
     let a = c .before .before .before .before .args in
     let n = c .before .number .result in
     let h : n ≤ 1000000 = omega arith in
     omega (arith, mul-le-mul-right (a .size) h)
-
-unlisted-requires-3 : tie.Need-unlisted-requires-3
-unlisted-requires-3 c κs = search needs
 
 returns-3 : tie.Need-returns-3
 returns-3 c =
@@ -68,16 +44,16 @@ pub listed-spec : {M : Type 1} → statement M
 listed-spec =
     tie.close
     (tie.spec
-    sub-if1
-    unlisted-requires
+    (λ c. search needs)
+    (λ c κs. search needs)
     returns
-    number-requires
-    cast-n
-    unlisted-requires-2
+    (λ c κs. search needs)
+    (λ c. search needs)
+    (λ c κs. search needs)
     returns-2
-    sub-if3
-    sub-if3-2
+    (λ c. search needs)
+    (λ c. search needs)
     mul-if3
-    unlisted-requires-3
+    (λ c κs. search needs)
     returns-3
     returns-4)

@@ -57,15 +57,6 @@ count-2 g = g .before .listed2 .ensures .1 (not-false _ (g .if3 .left))
 ends-2 : (g : tie.Else3) → next g + 4 + g .before .listed2 .result .count * confirmed-size ≤ length (g .before .before .before .before .before .before .before .before .before .args .s .now)
 ends-2 g = end-room confirmed-size confirmed-most (g .before .before .before .before .before .before .before .before .before .args .s .now) (next g) (second g) _ (count-2 g)
 
-record-size-requires : tie.Need-record-size-requires
-record-size-requires c κs = search needs
-
-listed-requires : tie.Need-listed-requires
-listed-requires c κs = search needs
-
-unreadable-requires : tie.Need-unreadable-requires
-unreadable-requires c κs = search needs
-
 returns : tie.Need-returns
 returns c =
     let z = c .before .before .before .record-size in
@@ -73,14 +64,8 @@ returns c =
     unreadable-says _ _ (a .s .now) (a .at) (c .unreadable .ensures)
     ∙ sym (no-first _ (z .result) pending-of (z .ensures .0) (told-read (a .version)) (a .s .now) (a .at) (omega arith) (sym (c .before .before .listed .ensures .0) ∙ not-true _ (c .before .if1 .taken)))
 
-add-part : tie.Need-add-part
-add-part c = search needs
-
 mul-part : tie.Need-mul-part
 mul-part c = omega (arith, ends c)
-
-part-requires : tie.Need-part-requires
-part-requires c κs = search needs
 
 in-range-requires : tie.Need-in-range-requires
 in-range-requires c κs =
@@ -89,18 +74,12 @@ in-range-requires c κs =
     let f = c .before in
     (z .ensures .1 .0, omega (arith, records-room (z .result) pending-most (a .s .now) (a .at) (first f) (f .before .listed .result .count) (count f) (now (c .part .result)) (c .part .ensures)))
 
-unreadable-requires-2 : tie.Need-unreadable-requires-2
-unreadable-requires-2 c κs = search needs
-
 returns-2 : tie.Need-returns-2
 returns-2 c =
     let z = c .before .before .before .before .before .before .record-size in
     let a = c .before .before .before .before .before .before .before .before .args in
     unreadable-says _ _ (a .s .now) (a .at) (c .unreadable2 .ensures)
     ∙ sym (out-of-range _ (z .result) pending-of (z .ensures .0) (told-read (a .version)) (a .s .now) (a .at) (first (c .before .before .before .before)) _ (count (c .before .before .before .before)) (sym (ranged (c .before .before)) ∙ not-true _ (c .before .if2 .taken)))
-
-add-next : tie.Need-add-next
-add-next c = search needs
 
 mul-next : tie.Need-mul-next
 mul-next c = omega (arith, ends (c .before .before .before))
@@ -110,9 +89,6 @@ add-next-2 c = omega (arith, ends (c .before .before .before))
 
 listed-requires-2 : tie.Need-listed-requires-2
 listed-requires-2 c κs = omega (arith, ends (c .before .before .before))
-
-unreadable-requires-3 : tie.Need-unreadable-requires-3
-unreadable-requires-3 c κs = search needs
 
 returns-3 : tie.Need-returns-3
 returns-3 c =
@@ -129,9 +105,6 @@ mul-if4 c = omega (arith, ends-2 c)
 
 add-if4-2 : tie.Need-add-if4-2
 add-if4-2 c = omega (arith, ends-2 c)
-
-unreadable-requires-4 : tie.Need-unreadable-requires-4
-unreadable-requires-4 c κs = search needs
 
 returns-4 : tie.Need-returns-4
 returns-4 c =
@@ -151,25 +124,25 @@ pub read-tables-spec : {M : Type 1} → statement M
 read-tables-spec =
     tie.close
     (tie.spec
-    record-size-requires
-    listed-requires
-    unreadable-requires
+    (λ c κs. search needs)
+    (λ c κs. search needs)
+    (λ c κs. search needs)
     returns
-    add-part
+    (λ c. search needs)
     mul-part
-    part-requires
+    (λ c κs. search needs)
     in-range-requires
-    unreadable-requires-2
+    (λ c κs. search needs)
     returns-2
-    add-next
+    (λ c. search needs)
     mul-next
     add-next-2
     listed-requires-2
-    unreadable-requires-3
+    (λ c κs. search needs)
     returns-3
     add-if4
     mul-if4
     add-if4-2
-    unreadable-requires-4
+    (λ c κs. search needs)
     returns-4
     returns-5)

@@ -9,12 +9,6 @@ use Rattle.format.specs.File.{version-told}
 use Rattle.parse.proofs.version.after_len.Statement.{statement}
 use Rattle.parse.proofs.version.after_len.Tie as tie
 
-enum-told : tie.Need-enum-told
-enum-told c = search needs
-
-enum-told-2 : tie.Need-enum-told-2
-enum-told-2 c = search needs
-
 returns : tie.Need-returns
 unfolding bytes
 returns c = (sym (ap (λ (v : FileVersion). length (version-told v .after)) (c .enum-told .given .1)), omega arith)
@@ -24,4 +18,4 @@ unfolding bytes
 returns-2 c = (sym (ap (λ (v : FileVersion). length (version-told v .after)) (c .enum-told2 .given .1)), omega arith)
 
 pub after-len-spec : {M : Type 1} → statement M
-after-len-spec = tie.close (tie.spec enum-told enum-told-2 returns returns-2)
+after-len-spec = tie.close (tie.spec (λ c. search needs) (λ c. search needs) returns returns-2)

@@ -7,12 +7,6 @@ use Rattle.format.specs.File.{version-told}
 use Rattle.parse.proofs.version.record_size.Statement.{statement}
 use Rattle.parse.proofs.version.record_size.Tie as tie
 
-enum-told : tie.Need-enum-told
-enum-told c = search needs
-
-enum-told-2 : tie.Need-enum-told-2
-enum-told-2 c = search needs
-
 returns : tie.Need-returns
 returns c = (sym (ap (λ (v : FileVersion). version-told v .records .size) (c .enum-told .given .1)), (omega arith, omega arith))
 
@@ -20,4 +14,4 @@ returns-2 : tie.Need-returns-2
 returns-2 c = (sym (ap (λ (v : FileVersion). version-told v .records .size) (c .enum-told2 .given .1)), (omega arith, omega arith))
 
 pub record-size-spec : {M : Type 1} → statement M
-record-size-spec = tie.close (tie.spec enum-told enum-told-2 returns returns-2)
+record-size-spec = tie.close (tie.spec (λ c. search needs) (λ c. search needs) returns returns-2)

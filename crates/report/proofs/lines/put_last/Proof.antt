@@ -10,41 +10,11 @@ use borrow.Author.Needs.{needs}
 use Rattle.report.proofs.lines.put_last.Statement.{statement}
 use Rattle.report.proofs.lines.put_last.Tie as tie
 
-enum-known-last : tie.Need-enum-known-last
-enum-known-last c = search needs
-
-enum-told : tie.Need-enum-told
-enum-told c = search needs
-
-slice-aggregate-put-line : tie.Need-slice-aggregate-put-line
-slice-aggregate-put-line c = search needs
-
-slice-aggregate-put-line-2 : tie.Need-slice-aggregate-put-line-2
-slice-aggregate-put-line-2 c = search needs
-
-put-line-requires : tie.Need-put-line-requires
-put-line-requires c κs = search needs
-
-same-length : tie.Need-same-length
-same-length c = search needs
-
 returns : tie.Need-returns
 unfolding last-text
 returns c =
     let a = c .before .before .before .before .before .before .before .before .before .args in
     c .before .before .put-line .ensures ∙ ap (λ (l : Last). writes (line height (last-text l)) (page (now (a .out)) (a .at))) (sym (c .before .before .before .before .before .before .enum-told .given .1))
-
-slice-aggregate-put-number : tie.Need-slice-aggregate-put-number
-slice-aggregate-put-number c = search needs
-
-cast-put-number : tie.Need-cast-put-number
-cast-put-number c = search needs
-
-put-number-requires : tie.Need-put-number-requires
-put-number-requires c κs = search needs
-
-same-length-2 : tie.Need-same-length-2
-same-length-2 c = search needs
 
 returns-2 : tie.Need-returns-2
 unfolding last-text
@@ -56,15 +26,15 @@ pub put-last-spec : {M : Type 1} → statement M
 put-last-spec =
     tie.close
     (tie.spec
-    enum-known-last
-    enum-told
-    slice-aggregate-put-line
-    slice-aggregate-put-line-2
-    put-line-requires
-    same-length
+    (λ c. search needs)
+    (λ c. search needs)
+    (λ c. search needs)
+    (λ c. search needs)
+    (λ c κs. search needs)
+    (λ c. search needs)
     returns
-    slice-aggregate-put-number
-    cast-put-number
-    put-number-requires
-    same-length-2
+    (λ c. search needs)
+    (λ c. search needs)
+    (λ c κs. search needs)
+    (λ c. search needs)
     returns-2)

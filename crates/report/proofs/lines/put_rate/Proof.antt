@@ -22,26 +22,11 @@ none Estimated.Damaged h = refl
 none Estimated.NoRate h = refl
 none (Estimated.Rate r) h = ⊎-elim (λ o. absurd (omega arith)) (λ o. absurd (omega arith)) h
 
-enum-known-e : tie.Need-enum-known-e
-enum-known-e c = search needs
-
-put-byte-requires : tie.Need-put-byte-requires
-put-byte-requires c κs = search needs
-
-same-length : tie.Need-same-length
-same-length c = search needs
-
 returns : tie.Need-returns
 returns c =
     let k = c .before .before .before .before in
     let a = k .before .before .args in
     c .before .before .put-byte .ensures ∙ ap (λ (x : Text). write x (page (now (a .out)) (a .at))) (none (a .e) (k .match .keys2))
-
-put-decimal-requires : tie.Need-put-decimal-requires
-put-decimal-requires c κs = search needs
-
-same-length-2 : tie.Need-same-length-2
-same-length-2 c = search needs
 
 returns-2 : tie.Need-returns-2
 unfolding carried-rate
@@ -52,4 +37,4 @@ returns-2 c =
 
 pub put-rate-spec : {M : Type 1} → statement M
 put-rate-spec =
-    tie.close (tie.spec enum-known-e put-byte-requires same-length returns put-decimal-requires same-length-2 returns-2)
+    tie.close (tie.spec (λ c. search needs) (λ c κs. search needs) (λ c. search needs) returns (λ c κs. search needs) (λ c. search needs) returns-2)

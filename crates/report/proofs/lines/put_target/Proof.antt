@@ -8,24 +8,6 @@ use borrow.Author.Needs.{needs}
 use Rattle.report.proofs.lines.put_target.Statement.{statement}
 use Rattle.report.proofs.lines.put_target.Tie as tie
 
-estimate-requires : tie.Need-estimate-requires
-estimate-requires c κs = search needs
-
-put-decimal-requires : tie.Need-put-decimal-requires
-put-decimal-requires c κs = search needs
-
-put-byte-requires : tie.Need-put-byte-requires
-put-byte-requires c κs = search needs
-
-put-rate-requires : tie.Need-put-rate-requires
-put-rate-requires c κs = search needs
-
-put-byte-requires-2 : tie.Need-put-byte-requires-2
-put-byte-requires-2 c κs = search needs
-
-same-length : tie.Need-same-length
-same-length c = search needs
-
 returns : tie.Need-returns
 unfolding answered
 returns c =
@@ -37,10 +19,10 @@ pub put-target-spec : {M : Type 1} → statement M
 put-target-spec =
     tie.close
     (tie.spec
-    estimate-requires
-    put-decimal-requires
-    put-byte-requires
-    put-rate-requires
-    put-byte-requires-2
-    same-length
+    (λ c κs. search needs)
+    (λ c κs. search needs)
+    (λ c κs. search needs)
+    (λ c κs. search needs)
+    (λ c κs. search needs)
+    (λ c. search needs)
     returns)

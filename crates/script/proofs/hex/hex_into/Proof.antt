@@ -15,14 +15,8 @@ use Rattle.script.proofs.hex.hex_into.Tie as tie
 returns : tie.Need-returns
 returns c = let a = c .before .before .before .args in sym (into-short (now (a .word)) (now (a .out)) (c .if1 .taken))
 
-is-hex-requires : tie.Need-is-hex-requires
-is-hex-requires c κs = search needs
-
 unhex-requires : tie.Need-unhex-requires
 unhex-requires c κs = (sym (c .before .before .is-hex .ensures) ∙ c .before .if2 .taken, omega arith)
-
-same-length : tie.Need-same-length
-same-length c = search needs
 
 returns-2 : tie.Need-returns-2
 returns-2 c =
@@ -38,4 +32,4 @@ returns-3 c =
 
 pub hex-into-spec : {M : Type 1} → statement M
 hex-into-spec =
-    tie.close (tie.spec returns is-hex-requires unhex-requires same-length returns-2 returns-3)
+    tie.close (tie.spec returns (λ c κs. search needs) unhex-requires (λ c. search needs) returns-2 returns-3)

@@ -12,18 +12,6 @@ use Rattle.script.proofs.hex.id_in.Tie as tie
 returns : tie.Need-returns
 returns c = no-word (now (c .before .before .args .word)) (c .if1 .taken)
 
-slice-aggregate-hex-into : tie.Need-slice-aggregate-hex-into
-slice-aggregate-hex-into c = search needs
-
-hex-into-requires : tie.Need-hex-into-requires
-hex-into-requires c κs = search needs
-
-enum-told : tie.Need-enum-told
-enum-told c = search needs
-
-enum-told-2 : tie.Need-enum-told-2
-enum-told-2 c = search needs
-
 returns-2 : tie.Need-returns-2
 returns-2 c =
     let w = now (c .before .before .before .before .before .before .before .args .word) in
@@ -41,9 +29,9 @@ id-in-spec =
     tie.close
     (tie.spec
     returns
-    slice-aggregate-hex-into
-    hex-into-requires
-    enum-told
-    enum-told-2
+    (λ c. search needs)
+    (λ c κs. search needs)
+    (λ c. search needs)
+    (λ c. search needs)
     returns-2
     returns-3)

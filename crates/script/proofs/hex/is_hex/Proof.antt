@@ -40,20 +40,8 @@ loop-holds : tie.Need-loop-holds Inv-loop μ-loop
 unfolding is-hex
 loop-holds c = (omega arith, simp (eq-eqb _ _ (c .if1 .left)))
 
-shared-slice-read-digit : tie.Need-shared-slice-read-digit Inv-loop μ-loop
-shared-slice-read-digit c = omega arith
-
-digit-requires : tie.Need-digit-requires Inv-loop μ-loop
-digit-requires c κs = search needs
-
 returns-2 : tie.Need-returns-2 Inv-loop μ-loop
 returns-2 c = sym (turn (c .before) ∙ simp (le-ltb _ _ (c .if2 .taken)))
-
-add-i : tie.Need-add-i Inv-loop μ-loop
-add-i c = omega arith
-
-loop-less : tie.Need-loop-less Inv-loop μ-loop
-loop-less c = omega arith
 
 loop-again : tie.Need-loop-again Inv-loop μ-loop
 loop-again c = (omega arith, turn (c .before) ∙ simp (lt-ltb _ _ (c .if2 .left)))
@@ -72,10 +60,10 @@ is-hex-spec =
     μ-loop
     returns
     loop-holds
-    shared-slice-read-digit
-    digit-requires
+    (λ c. omega arith)
+    (λ c κs. search needs)
     returns-2
-    add-i
-    loop-less
+    (λ c. omega arith)
+    (λ c. omega arith)
     loop-again
     returns-3)

@@ -6,9 +6,6 @@ use Rattle.script.specs.Hex.{pattern-of}
 use Rattle.script.proofs.hex.pattern_in.Statement.{statement}
 use Rattle.script.proofs.hex.pattern_in.Tie as tie
 
-number-in-requires : tie.Need-number-in-requires
-number-in-requires c κs = search needs
-
 returns : tie.Need-returns
 unfolding pattern-of
 returns c = simp (eq-eqb _ _ (c .before .if1 .taken)) (c .number-in .ensures)
@@ -18,4 +15,4 @@ unfolding pattern-of
 returns-2 c = simp (ne-eqb _ _ (c .if1 .left))
 
 pub pattern-in-spec : {M : Type 1} → statement M
-pattern-in-spec = tie.close (tie.spec number-in-requires returns returns-2)
+pattern-in-spec = tie.close (tie.spec (λ c κs. search needs) returns returns-2)

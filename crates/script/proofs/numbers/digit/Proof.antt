@@ -19,9 +19,6 @@ returns-3 : tie.Need-returns-3
 unfolding digit
 returns-3 c = (simp (le-ltb _ _ (c .before .before .if1 .left), lt-leb _ _ (c .before .if2 .left), lt-ltb _ _ (c .if3 .taken)), omega arith)
 
-sub-result : tie.Need-sub-result
-sub-result c = search needs
-
 returns-4 : tie.Need-returns-4
 unfolding digit
 returns-4 c = (simp (le-ltb _ _ (c .before .before .before .if1 .left), lt-leb _ _ (c .before .before .if2 .left), le-ltb _ _ (c .before .if3 .left), le-leb _ _ (c .if4 .taken)), omega arith)
@@ -31,4 +28,4 @@ unfolding digit
 returns-5 c = (simp (le-ltb _ _ (c .before .before .before .if1 .left), lt-leb _ _ (c .before .before .if2 .left), le-ltb _ _ (c .before .if3 .left), lt-leb _ _ (c .if4 .left)), omega arith)
 
 pub digit-spec : {M : Type 1} → statement M
-digit-spec = tie.close (tie.spec returns returns-2 returns-3 sub-result returns-4 returns-5)
+digit-spec = tie.close (tie.spec returns returns-2 returns-3 (λ c. search needs) returns-4 returns-5)

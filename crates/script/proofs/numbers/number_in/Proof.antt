@@ -49,15 +49,6 @@ returns c = let a = c .before .before .args in sym (empty (a .base) (a .most) (n
 loop-holds : tie.Need-loop-holds Inv-loop μ-loop
 loop-holds c = let a = c .before .before .args in (omega arith, (omega arith, started (a .base) (a .most) (now (a .word)) (c .if1 .left)))
 
-shared-slice-read-digit : tie.Need-shared-slice-read-digit Inv-loop μ-loop
-shared-slice-read-digit c = omega arith
-
-digit-requires : tie.Need-digit-requires Inv-loop μ-loop
-digit-requires c κs = search needs
-
-wide-requires : tie.Need-wide-requires Inv-loop μ-loop
-wide-requires c κs = search needs
-
 returns-2 : tie.Need-returns-2 Inv-loop μ-loop
 returns-2 c =
     let b = c .before in
@@ -74,9 +65,6 @@ returns-3 c =
     let e = value b in
     sym (next b (c .before .if2 .left) ∙ over (a .base) (a .most) (now (a .word)) _ (l .i + 1) (omega arith) (omega arith))
 
-div-if4 : tie.Need-div-if4 Inv-loop μ-loop
-div-if4 c = omega arith
-
 returns-4 : tie.Need-returns-4 Inv-loop μ-loop
 returns-4 c =
     let b = c .before .before .before in
@@ -90,12 +78,6 @@ mul-n c = let m = fits c in omega arith
 
 add-n : tie.Need-add-n Inv-loop μ-loop
 add-n c = let m = fits c in omega arith
-
-add-i : tie.Need-add-i Inv-loop μ-loop
-add-i c = omega arith
-
-loop-less : tie.Need-loop-less Inv-loop μ-loop
-loop-less c = omega arith
 
 loop-again : tie.Need-loop-again Inv-loop μ-loop
 loop-again c = (omega arith, (fits c, next (c .before .before .before) (c .before .before .if2 .left)))
@@ -114,16 +96,16 @@ number-in-spec =
     μ-loop
     returns
     loop-holds
-    shared-slice-read-digit
-    digit-requires
-    wide-requires
+    (λ c. omega arith)
+    (λ c κs. search needs)
+    (λ c κs. search needs)
     returns-2
     returns-3
-    div-if4
+    (λ c. omega arith)
     returns-4
     mul-n
     add-n
-    add-i
-    loop-less
+    (λ c. omega arith)
+    (λ c. omega arith)
     loop-again
     returns-5)

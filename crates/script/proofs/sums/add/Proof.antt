@@ -7,15 +7,9 @@ use Rattle.script.specs.Sums.{step}
 use Rattle.script.proofs.sums.add.Statement.{statement}
 use Rattle.script.proofs.sums.add.Tie as tie
 
-add-a : tie.Need-add-a
-add-a c = search needs
-
-add-b : tie.Need-add-b
-add-b c = search needs
-
 returns : tie.Need-returns
 unfolding step
 returns c = (refl, (omega arith, omega arith))
 
 pub add-spec : {M : Type 1} → statement M
-add-spec = tie.close (tie.spec add-a add-b returns)
+add-spec = tie.close (tie.spec (λ c. search needs) (λ c. search needs) returns)

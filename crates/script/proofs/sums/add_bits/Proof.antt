@@ -19,17 +19,8 @@ abbrev μ-loop : tie.MeasureT-loop
 loop-holds : tie.Need-loop-holds Inv-loop μ-loop
 loop-holds c = ((omega arith, c .pre), refl)
 
-cast-add : tie.Need-cast-add Inv-loop μ-loop
-cast-add c = omega arith
-
 add-requires : tie.Need-add-requires Inv-loop μ-loop
 add-requires c κs = c .before .loop .inv .0 .1
-
-sub-k : tie.Need-sub-k Inv-loop μ-loop
-sub-k c = omega arith
-
-loop-less : tie.Need-loop-less Inv-loop μ-loop
-loop-less c = omega arith
 
 loop-again : tie.Need-loop-again Inv-loop μ-loop
 loop-again c =
@@ -46,4 +37,4 @@ returns c =
 pub add-bits-spec : {M : Type 1} → statement M
 add-bits-spec =
     tie.close
-    (tie.spec Inv-loop μ-loop loop-holds cast-add add-requires sub-k loop-less loop-again returns)
+    (tie.spec Inv-loop μ-loop loop-holds (λ c. omega arith) add-requires (λ c. omega arith) (λ c. omega arith) loop-again returns)

@@ -20,17 +20,8 @@ abbrev μ-loop : tie.MeasureT-loop
 loop-holds : tie.Need-loop-holds Inv-loop μ-loop
 loop-holds c = ((omega arith, (omega arith, omega arith)), refl)
 
-shared-slice-read-add : tie.Need-shared-slice-read-add Inv-loop μ-loop
-shared-slice-read-add c = omega arith
-
 add-requires : tie.Need-add-requires Inv-loop μ-loop
 add-requires c κs = c .before .before .loop .inv .0 .1
-
-add-i : tie.Need-add-i Inv-loop μ-loop
-add-i c = omega arith
-
-loop-less : tie.Need-loop-less Inv-loop μ-loop
-loop-less c = omega arith
 
 loop-again : tie.Need-loop-again Inv-loop μ-loop
 loop-again c =
@@ -55,10 +46,10 @@ sum-bytes-spec =
     Inv-loop
     μ-loop
     loop-holds
-    shared-slice-read-add
+    (λ c. omega arith)
     add-requires
-    add-i
-    loop-less
+    (λ c. omega arith)
+    (λ c. omega arith)
     loop-again
     total-requires
     returns)

@@ -22,23 +22,8 @@ abbrev μ-loop : tie.MeasureT-loop
 loop-holds : tie.Need-loop-holds Inv-loop μ-loop
 loop-holds c = ((omega arith, (omega arith, omega arith)), refl)
 
-mul-bits-of : tie.Need-mul-bits-of Inv-loop μ-loop
-mul-bits-of c = search needs
-
-shared-slice-read-bits-of : tie.Need-shared-slice-read-bits-of Inv-loop μ-loop
-shared-slice-read-bits-of c = omega arith
-
-bits-of-requires : tie.Need-bits-of-requires Inv-loop μ-loop
-bits-of-requires c κs = search needs
-
 add-bits-requires : tie.Need-add-bits-requires Inv-loop μ-loop
 add-bits-requires c κs = c .before .before .before .loop .inv .0 .1
-
-add-i : tie.Need-add-i Inv-loop μ-loop
-add-i c = omega arith
-
-loop-less : tie.Need-loop-less Inv-loop μ-loop
-loop-less c = omega arith
 
 loop-again : tie.Need-loop-again Inv-loop μ-loop
 loop-again c =
@@ -64,12 +49,12 @@ sum-doubles-spec =
     Inv-loop
     μ-loop
     loop-holds
-    mul-bits-of
-    shared-slice-read-bits-of
-    bits-of-requires
+    (λ c. search needs)
+    (λ c. omega arith)
+    (λ c κs. search needs)
     add-bits-requires
-    add-i
-    loop-less
+    (λ c. omega arith)
+    (λ c. omega arith)
     loop-again
     total-requires
     returns)

@@ -18,9 +18,6 @@ returns : tie.Need-returns
 unfolding word-from slice
 returns c = (simp (lt-ltb _ _ (c .if1 .taken)), omega arith)
 
-find-requires : tie.Need-find-requires
-find-requires c κs = search needs
-
 returns-2 : tie.Need-returns-2
 unfolding word-from slice
 returns-2 c =
@@ -30,4 +27,4 @@ returns-2 c =
     (simp (le-ltb _ _ (c .before .if1 .left), e), omega arith)
 
 pub word-at-spec : {M : Type 1} → statement M
-word-at-spec = tie.close (tie.spec returns find-requires returns-2)
+word-at-spec = tie.close (tie.spec returns (λ c κs. search needs) returns-2)

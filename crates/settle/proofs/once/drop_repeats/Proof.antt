@@ -26,12 +26,6 @@ keep-other-requires c κs =
     let t = c .before .before .loop .inv in
     (s .pre .0, (t .some, (t .k-le, omega (arith, t .len, record-end (s .args .size) (s .args .used) (c .before .before .loop .i) (omega arith)))))
 
-add-i : tie.Need-add-i Inv-loop μ-loop
-add-i c = omega arith
-
-loop-less : tie.Need-loop-less Inv-loop μ-loop
-loop-less c = omega arith
-
 loop-again : tie.Need-loop-again Inv-loop μ-loop
 loop-again c =
     let s = c .before .before .before .before .before .before .before .before in
@@ -57,8 +51,8 @@ drop-repeats-spec =
     returns
     loop-holds
     keep-other-requires
-    add-i
-    loop-less
+    (λ c. omega arith)
+    (λ c. omega arith)
     loop-again
     same-length
     returns-2)

@@ -37,23 +37,14 @@ told c =
     ap (λ (j : Id). not (same (id32 ((s .args .k - 1) * s .args .size) (now (s .args .table))) j)) (take-take 32 (s .args .size) (drop (s .args .i * s .args .size) (now (s .args .table))) (s .pre .0))
     ∙ ap not (sym (c .same-ids .ensures))
 
-sub-same-ids : tie.Need-sub-same-ids
-sub-same-ids c = search needs
-
 mul-same-ids : tie.Need-mul-same-ids
 mul-same-ids c = omega (arith, order (c .before .before))
-
-mul-same-ids-2 : tie.Need-mul-same-ids-2
-mul-same-ids-2 c = search needs
 
 same-ids-requires : tie.Need-same-ids-requires
 same-ids-requires c κs = omega (arith, order (c .before .before))
 
 mul-shift-down : tie.Need-mul-shift-down
 mul-shift-down c = omega (arith, order (start (c .before .before)))
-
-mul-shift-down-2 : tie.Need-mul-shift-down-2
-mul-shift-down-2 c = search needs
 
 mul-shift-down-3 : tie.Need-mul-shift-down-3
 mul-shift-down-3 c = omega (arith, order (start (c .before .before)))
@@ -67,16 +58,10 @@ shift-down-requires c κs = omega (arith, order (start (c .before .before)))
 add-result : tie.Need-add-result
 add-result c = let s = start (c .before .before .before .before .before) in omega (arith, mul-le-mul-left {m = 32} {n = s .args .size} (s .args .i) (s .pre .0))
 
-same-length : tie.Need-same-length
-same-length c = search needs
-
 returns : tie.Need-returns
 returns c =
     let s = start (c .before) in
     moved-goes (stays s) (s .args .size) (s .args .k) (s .args .i) (now (s .args .table)) (told (c .before) ∙ ap not (c .if1 .taken))
-
-same-length-2 : tie.Need-same-length-2
-same-length-2 c = search needs
 
 returns-2 : tie.Need-returns-2
 returns-2 c =
@@ -88,17 +73,17 @@ pub keep-other-spec : {M : Type 1} → statement M
 keep-other-spec =
     tie.close
     (tie.spec
-    sub-same-ids
+    (λ c. search needs)
     mul-same-ids
-    mul-same-ids-2
+    (λ c. search needs)
     same-ids-requires
     mul-shift-down
-    mul-shift-down-2
+    (λ c. search needs)
     mul-shift-down-3
     sub-shift-down
     shift-down-requires
     add-result
-    same-length
+    (λ c. search needs)
     returns
-    same-length-2
+    (λ c. search needs)
     returns-2)

@@ -9,18 +9,6 @@ use Rattle.table.proofs.View.{under-apart, over-apart}
 use Rattle.settle.proofs.once.same_ids.Statement.{statement}
 use Rattle.settle.proofs.once.same_ids.Tie as tie
 
-compare-requires : tie.Need-compare-requires
-compare-requires c κs = search needs
-
-enum-told : tie.Need-enum-told
-enum-told c = search needs
-
-enum-told-2 : tie.Need-enum-told-2
-enum-told-2 c = search needs
-
-enum-told-3 : tie.Need-enum-told-3
-enum-told-3 c = search needs
-
 returns : tie.Need-returns
 returns c = sym (under-apart _ _ (sym (c .before .before .compare .ensures) ∙ c .enum-told .given .1))
 
@@ -33,4 +21,4 @@ returns-3 c = sym (over-apart _ _ (cmp-above _ _ (sym (c .before .before .compar
 pub same-ids-spec : {M : Type 1} → statement M
 same-ids-spec =
     tie.close
-    (tie.spec compare-requires enum-told enum-told-2 enum-told-3 returns returns-2 returns-3)
+    (tie.spec (λ c κs. search needs) (λ c. search needs) (λ c. search needs) (λ c. search needs) returns returns-2 returns-3)

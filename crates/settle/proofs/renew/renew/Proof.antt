@@ -39,20 +39,11 @@ find-requires c κs =
     let s = c .before .before .before .before in
     (s .pre .0, (s .pre .1 .1 .0, length-take-le 32 (s .args .rec .now) (omega arith)))
 
-enum-known-i : tie.Need-enum-known-i
-enum-known-i c = search needs
-
 mul-put-bytes : tie.Need-mul-put-bytes
 mul-put-bytes c = omega (arith, end (c .before .before))
 
 put-bytes-requires : tie.Need-put-bytes-requires
 put-bytes-requires c κs = omega (arith, end (c .before .before))
-
-enum-told : tie.Need-enum-told
-enum-told c = search needs
-
-same-length : tie.Need-same-length
-same-length c = search needs
 
 returns : tie.Need-returns
 returns c =
@@ -60,9 +51,6 @@ returns c =
     let s = start (t .before .before) in
     c .before .before .put-bytes .ensures
     ∙ at-bytes (s .args .size) (s .args .used) (t .i .given .0 .0) (now (s .args .rec)) (now (s .args .table)) (s .pre .1 .1 .0) (found t) (s .pre .1 .0) (s .pre .0 .1)
-
-same-length-2 : tie.Need-same-length-2
-same-length-2 c = search needs
 
 -- the id is there, so the search does not miss it
 returns-2 : tie.Need-returns-2
@@ -77,11 +65,11 @@ renew-spec =
     (tie.spec
     slice-aggregate-find
     find-requires
-    enum-known-i
+    (λ c. search needs)
     mul-put-bytes
     put-bytes-requires
-    enum-told
-    same-length
+    (λ c. search needs)
+    (λ c. search needs)
     returns
-    same-length-2
+    (λ c. search needs)
     returns-2)

@@ -28,12 +28,6 @@ mul-from c = omega (arith, end c)
 add-to : tie.Need-add-to Inv-loop μ-loop
 add-to c = omega (arith, end c)
 
-sub-renew : tie.Need-sub-renew Inv-loop μ-loop
-sub-renew c = omega arith
-
-part-renew-start : tie.Need-part-renew-start Inv-loop μ-loop
-part-renew-start c = omega arith
-
 part-renew-end : tie.Need-part-renew-end Inv-loop μ-loop
 part-renew-end c = end (c .before)
 
@@ -51,12 +45,6 @@ renew-requires c κs =
         (renewing-up (s .args .size) (s .args .used) (s .args .n) (now (s .args .table)) (now (s .args .src)) (s .pre .1 .0) (s .pre .1 .1 .0) (s .pre .1 .1 .1) (l .table) (l .table) (l .i) (l .inv), renewing-there (s .args .size) (s .args .used) (s .args .n) (now (s .args .table)) (now (s .args .src)) (s .pre .1 .0) (s .pre .1 .1 .0) (s .pre .1 .1 .1) (l .table) (l .table) (l .i) (l .inv) _ h e),
       ),
     )
-
-add-i : tie.Need-add-i Inv-loop μ-loop
-add-i c = omega arith
-
-loop-less : tie.Need-loop-less Inv-loop μ-loop
-loop-less c = omega arith
 
 loop-again : tie.Need-loop-again Inv-loop μ-loop
 loop-again c =
@@ -87,12 +75,12 @@ renew-all-spec =
     loop-holds
     mul-from
     add-to
-    sub-renew
-    part-renew-start
+    (λ c. omega arith)
+    (λ c. omega arith)
     part-renew-end
     renew-requires
-    add-i
-    loop-less
+    (λ c. omega arith)
+    (λ c. omega arith)
     loop-again
     same-length
     returns)

@@ -26,17 +26,11 @@ at n = told _ _ _ _ _ (n .before .before .before .before .record-size .ensures .
 placed : (n : tie.After-i) → let a = start n .args in (n .i .given .0 .0 < a .used) × (a .used * n .before .before .before .before .record-size .result ≤ length (now (a .pending)))
 placed n = in-table _ _ pending-most _ _ _ _ (n .before .before .before .before .record-size .ensures .0) (start n .pre .0) (at n)
 
-record-size-requires : tie.Need-record-size-requires
-record-size-requires c κs = search needs
-
 find-requires : tie.Need-find-requires
 find-requires c κs =
     let s = c .before .before .before .before in
     let z = c .before .record-size .ensures in
     searchable _ _ pending-most _ _ (now (s .args .id)) (z .0) (omega (arith, z .1)) (s .pre .0) (s .pre .1)
-
-enum-known-i : tie.Need-enum-known-i
-enum-known-i c = search needs
 
 remove-requires : tie.Need-remove-requires
 remove-requires c κs = let p = placed (c .before .before) in (omega (arith, p .0), p .1)
@@ -44,20 +38,11 @@ remove-requires c κs = let p = placed (c .before .before) in (omega (arith, p .
 sub-result : tie.Need-sub-result
 sub-result c = omega (arith, placed (c .before .before .before .before .before) .0)
 
-enum-told : tie.Need-enum-told
-enum-told c = search needs
-
-same-length : tie.Need-same-length
-same-length c = search needs
-
 returns : tie.Need-returns
 returns c =
     let n = c .before .before .before .before .before in
     let s = start n in
     removed (board-of (s .args .on)) (board-lawful (s .args .on)) _ _ _ _ (s .pre .0) _ _ (c .before .before .before .before .before .before .before .before .before .record-size .ensures .0) (are-bytes (c .before .before .remove .last .0) (λ i. c .slice-known2 .given i .fits)) (at n) (c .before .before .remove .ensures)
-
-same-length-2 : tie.Need-same-length-2
-same-length-2 c = search needs
 
 returns-2 : tie.Need-returns-2
 returns-2 c =
@@ -66,4 +51,4 @@ returns-2 c =
     unmoved (board-of (s .args .on)) (board-lawful (s .args .on)) _ _ _ _ (s .pre .0) (are-bytes (now (s .args .pending)) (λ i. c .before .before .before .before .before .before .slice-known .given i .fits)) f
 
 pub forget-spec : {M : Type 1} → statement M
-forget-spec = tie.close (tie.spec record-size-requires find-requires enum-known-i remove-requires sub-result enum-told same-length returns same-length-2 returns-2)
+forget-spec = tie.close (tie.spec (λ c κs. search needs) find-requires (λ c. search needs) remove-requires sub-result (λ c. search needs) (λ c. search needs) returns (λ c. search needs) returns-2)

@@ -11,16 +11,10 @@ use Rattle.table.proofs.by_id.holds.Tie as tie
 find-requires : tie.Need-find-requires
 find-requires c κs = let s = c .before .before in searchable confirmed-size confirmed-size confirmed-most _ _ (now (s .args .id)) refl (omega arith) (s .pre .0) (s .pre .1)
 
-enum-known-i : tie.Need-enum-known-i
-enum-known-i c = search needs
-
 height-at-requires : tie.Need-height-at-requires
 height-at-requires c κs =
     let s = c .before .before .before .before .before .before in
     in-table confirmed-size confirmed-size confirmed-most _ _ _ _ refl (s .pre .0) (sym (c .before .before .before .find .ensures) ∙ c .before .i .given .1)
-
-enum-told : tie.Need-enum-told
-enum-told c = search needs
 
 returns : tie.Need-returns
 returns c =
@@ -32,4 +26,4 @@ returns-2 : tie.Need-returns-2
 returns-2 c = not-held _ _ _ _ (c .before .before .before .before .before .pre .0) _ (sym (c .before .before .find .ensures) ∙ c .enum-told .given .1)
 
 pub holds-spec : {M : Type 1} → statement M
-holds-spec = tie.close (tie.spec find-requires enum-known-i height-at-requires enum-told returns returns-2)
+holds-spec = tie.close (tie.spec find-requires (λ c. search needs) height-at-requires (λ c. search needs) returns returns-2)

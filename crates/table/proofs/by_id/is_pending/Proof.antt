@@ -8,20 +8,11 @@ use borrow.Author.Needs.{needs}
 use Rattle.table.proofs.by_id.is_pending.Statement.{statement}
 use Rattle.table.proofs.by_id.is_pending.Tie as tie
 
-record-size-requires : tie.Need-record-size-requires
-record-size-requires c κs = search needs
-
 find-requires : tie.Need-find-requires
 find-requires c κs =
     let s = c .before .before .before in
     let z = c .record-size .ensures in
     searchable _ _ pending-most _ _ (now (s .args .id)) (z .0) (omega (arith, z .1)) (s .pre .0) (s .pre .1)
-
-enum-told : tie.Need-enum-told
-enum-told c = search needs
-
-enum-told-2 : tie.Need-enum-told-2
-enum-told-2 c = search needs
 
 returns : tie.Need-returns
 returns c =
@@ -34,4 +25,4 @@ returns-2 c =
     missing (board-of (s .args .on)) (board-lawful (s .args .on)) _ _ _ _ (s .pre .0) (told _ _ _ _ _ (c .before .before .before .record-size .ensures .0) (c .before .before .find .ensures) (c .enum-told2 .given .1))
 
 pub is-pending-spec : {M : Type 1} → statement M
-is-pending-spec = tie.close (tie.spec record-size-requires find-requires enum-told enum-told-2 returns returns-2)
+is-pending-spec = tie.close (tie.spec (λ c κs. search needs) find-requires (λ c. search needs) (λ c. search needs) returns returns-2)

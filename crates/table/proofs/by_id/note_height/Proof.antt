@@ -12,17 +12,11 @@ use Rattle.table.proofs.by_id.note_height.Tie as tie
 find-requires : tie.Need-find-requires
 find-requires c κs = let s = c .before .before .before in searchable confirmed-size confirmed-size confirmed-most _ _ (now (s .args .id)) refl (omega arith) (s .pre .0) (s .pre .1 .1)
 
-enum-known-i : tie.Need-enum-known-i
-enum-known-i c = search needs
-
 put-field-requires : tie.Need-put-field-requires
 put-field-requires c κs =
     let s = c .before .before .before .before .before .before .before .before in
     let p = in-table confirmed-size confirmed-size confirmed-most _ _ _ _ refl (s .pre .0) (sym (c .before .before .before .before .find .ensures) ∙ c .before .before .i .given .1) in
     (p .0, (omega arith, p .1))
-
-enum-known-i-2 : tie.Need-enum-known-i-2
-enum-known-i-2 c = search needs
 
 insert-confirmed-requires : tie.Need-insert-confirmed-requires
 insert-confirmed-requires c κs =
@@ -30,20 +24,11 @@ insert-confirmed-requires c κs =
     let f = sym (c .before .before .before .before .find .ensures) ∙ c .before .before .i2 .given .1 in
     ((gap-used confirmed-size _ _ _ _ f, omega arith), s .pre .1 .1)
 
-add-result : tie.Need-add-result
-add-result c = search needs
-
-same-length : tie.Need-same-length
-same-length c = search needs
-
 returns : tie.Need-returns
 returns c =
     let s = c .before .before .before .before .before .before .before .before .before .before .before in
     let f = sym (c .before .before .before .before .before .before .before .find .ensures) ∙ c .before .before .before .before .before .i .given .1 in
     noted-again _ _ _ _ (s .pre .0) _ _ (are-bytes (c .before .before .put-field .last .0) (λ i. c .slice-known2 .given i .fits)) (omega arith) f (c .before .before .put-field .ensures)
-
-same-length-2 : tie.Need-same-length-2
-same-length-2 c = search needs
 
 returns-2 : tie.Need-returns-2
 returns-2 c =
@@ -53,4 +38,4 @@ returns-2 c =
 
 pub note-height-spec : {M : Type 1} → statement M
 note-height-spec =
-    tie.close (tie.spec find-requires enum-known-i put-field-requires enum-known-i-2 insert-confirmed-requires add-result same-length returns same-length-2 returns-2)
+    tie.close (tie.spec find-requires (λ c. search needs) put-field-requires (λ c. search needs) insert-confirmed-requires (λ c. search needs) (λ c. search needs) returns (λ c. search needs) returns-2)
