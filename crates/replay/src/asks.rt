@@ -1,6 +1,7 @@
 // The calls that change nothing. A line that is long is put into the buffer.
 use crate::edits::fill;
 use crate::limits::LAST_TARGET;
+use crate::lines::Line;
 use crate::lines::least;
 use crate::ops::Name;
 use crate::replies::Ran;
@@ -131,10 +132,9 @@ fn sums(
     put_byte(out, at, b'\n')
 }
 
-// Any of them, with its number.
+// Any of them.
 pub(crate) fn tell(
-    name: Name,
-    a: u64,
+    line: Line,
     state: State,
     pending: &[u8],
     recent: &[u8],
@@ -142,14 +142,15 @@ pub(crate) fn tell(
     resolved: &[f64],
     buffer: &mut [u8],
 ) -> Ran {
+    let name = line.name;
     match name {
         Name::Estimate => {
-            let e = estimator::estimate(state, confirmed, resolved, Blocks(low32(a)));
+            let e = estimator::estimate(state, confirmed, resolved, Blocks(low32(line.a)));
             estimated(e, state)
         }
         Name::Estimates => estimates(state, confirmed, resolved, buffer),
         Name::Write => {
-            let end = least(a as usize, buffer.len());
+            let end = least(line.a as usize, buffer.len());
             write(
                 state,
                 pending,

@@ -1,4 +1,5 @@
 // The calls that change the estimator.
+use crate::lines::Line;
 use crate::ops::Name;
 use crate::replies::Ran;
 use crate::replies::Said;
@@ -63,11 +64,9 @@ fn reading(r: Reading, before: State) -> Ran {
     }
 }
 
-// Any of them, with its numbers and its bytes: an id, a list of ids, or a history.
+// Any of them, with its bytes: an id, a list of ids, or a history.
 pub(crate) fn change(
-    name: Name,
-    a: u64,
-    b: u64,
+    line: Line,
     state: State,
     text: &[u8],
     pending: &mut [u8],
@@ -75,15 +74,16 @@ pub(crate) fn change(
     confirmed: &mut [f64],
     resolved: &mut [f64],
 ) -> Ran {
+    let name = line.name;
     match name {
-        Name::Enter => enter(state, text, FeeRate(a), Height(low32(b)), pending),
+        Name::Enter => enter(state, text, FeeRate(line.a), Height(low32(line.b)), pending),
         Name::Leave => leave(state, text, pending),
         Name::Start => {
             let r = estimator::new(confirmed, resolved, pending, recent);
             started(r, state)
         }
         Name::Block | Name::RawBlock => {
-            let height = Height(low32(a));
+            let height = Height(low32(line.a));
             let r = estimator::block_connected(
                 state,
                 confirmed,

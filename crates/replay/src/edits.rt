@@ -1,4 +1,5 @@
 // What is done to the lent memory itself.
+use crate::lines::Line;
 use crate::ops::Name;
 use crate::replies::Said;
 use print::put;
@@ -48,22 +49,22 @@ fn clear(pending: &mut [u8], recent: &mut [u8], confirmed: &mut [f64], resolved:
     zero(resolved);
 }
 
-// Any of them, with its numbers, over the memory as it is lent.
+// Any of them, over the memory as it is lent.
 pub(crate) fn lay(
-    name: Name,
-    a: u64,
-    b: u64,
+    line: Line,
     text: &[u8],
     pending: &mut [u8],
     recent: &mut [u8],
     confirmed: &mut [f64],
     resolved: &mut [f64],
 ) -> Said {
+    let name = line.name;
+    let at = line.a as usize;
     match name {
-        Name::BytePending => put_bytes(pending, a as usize, text),
-        Name::ByteConfirmed => put_bytes(recent, a as usize, text),
-        Name::CountConfirmed => put_count(confirmed, a as usize, b),
-        Name::CountResolved => put_count(resolved, a as usize, b),
+        Name::BytePending => put_bytes(pending, at, text),
+        Name::ByteConfirmed => put_bytes(recent, at, text),
+        Name::CountConfirmed => put_count(confirmed, at, line.b),
+        Name::CountResolved => put_count(resolved, at, line.b),
         _ => {
             clear(pending, recent, confirmed, resolved);
             Said::Lent

@@ -85,43 +85,14 @@ fn operate(
     let of = group_of(name);
     match of {
         Group::Lay => {
-            let text = front(buffer, n);
-            let said = lay(
-                name,
-                line.a,
-                line.b,
-                text,
-                pending,
-                recent,
-                confirmed,
-                resolved,
-            );
+            let said = lay(line, front(buffer, n), pending, recent, confirmed, resolved);
             reply(said, 0, state)
         }
         Group::Change => {
             let text = front(buffer, n);
-            change(
-                name,
-                line.a,
-                line.b,
-                state,
-                text,
-                pending,
-                recent,
-                confirmed,
-                resolved,
-            )
+            change(line, state, text, pending, recent, confirmed, resolved)
         }
-        Group::Tell => tell(
-            name,
-            line.a,
-            state,
-            pending,
-            recent,
-            confirmed,
-            resolved,
-            buffer,
-        ),
+        Group::Tell => tell(line, state, pending, recent, confirmed, resolved, buffer),
         Group::Other => without_memory(line, state),
     }
 }
