@@ -1,1 +1,4 @@
+-- From time to column.
+
+-- columns, widths and waits
 pub mod Times

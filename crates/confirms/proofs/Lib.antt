@@ -1,3 +1,6 @@
--- `Stepped`: one listed id. `Listing`: the list.
+-- Laws of a block's list.
+
+-- one listed id
 pub mod Stepped
+-- the list
 pub mod Listing

@@ -1,1 +1,4 @@
+-- Entering and leaving.
+
+-- what the search finds decides the call
 pub mod Searched

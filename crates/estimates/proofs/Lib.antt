@@ -1,1 +1,4 @@
+-- An estimate.
+
+-- the tests before the scan, and its answer
 pub mod Estimating

@@ -1,2 +1,4 @@
--- `Fields`: tests and changes of the fields of a record.
+-- Expiry in a record's bytes.
+
+-- tests and changes of the fields of a record
 pub mod Fields

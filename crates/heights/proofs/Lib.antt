@@ -1,3 +1,6 @@
--- `Advance`: one height. `Skip`: one height after the other.
+-- Laws of heights.
+
+-- one height
 pub mod Advance
+-- one height after the other
 pub mod Skip

@@ -1,3 +1,5 @@
+-- Laws of the C ABI.
+
 -- a state in words
 mod Words
 -- what a caller sees, said of the calls below

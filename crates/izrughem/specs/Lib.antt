@@ -1,2 +1,6 @@
+-- What a C caller sees.
+
+-- a state in four words
 pub mod Words
+-- each exported function
 pub mod Calls

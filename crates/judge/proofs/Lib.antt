@@ -1,2 +1,4 @@
--- `Soundness`: the code's test of a count is the rules'.
+-- Laws of judging.
+
+-- the code's test of a count is the rules'
 pub mod Soundness

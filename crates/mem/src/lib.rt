@@ -12,6 +12,7 @@ ghost use lib.Seq.{sets};
 ghost use Rattle.mem.specs.Le.{le-at};
 ghost use Rattle.rules.specs.Bytes.{bytes};
 
+// A byte as a number of four bytes.
 fn wide(x: u8) -> u32
     ensures { λ r. ⌜ (r ≡ x) × (r < 256) ⌝ }
 {

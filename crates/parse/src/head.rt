@@ -120,7 +120,7 @@ pub fn read_header(s: &[u8], version: FileVersion) -> Header
 // How many bytes a header with this last height has.
 pub fn header_len(last: Last, version: FileVersion) -> usize
     ensures { λ r. ⌜ r ≡ head-size (version-told version) last ⌝ }
-    ensures { λ r. ⌜ r ≤ 25 ⌝ }
+    ensures { λ r. ⌜ r ≤ 21 + 4 ⌝ }
 {
     let n = after_len(version);
     match last {

@@ -4,10 +4,12 @@ ghost use Prim.Native.Nat.{_+_, _≤_};
 ghost use lib.ListN.{length, take, drop};
 ghost use Rattle.mem.specs.Le.{le-at};
 
+// What is left to read.
 pub struct Reader<'a> {
     pub bytes: &'a [u8],
 }
 
+// A reader of all these bytes.
 pub(crate) fn new<'a>(bytes: &'a [u8]) -> Reader<'a>
     ensures { λ r. ⌜ r .bytes ≡ bytes .entry ⌝ }
 {

@@ -1,2 +1,6 @@
+-- Laws of text in a buffer.
+
+-- pieces put at a cursor
 pub mod Pages
+-- the digits of a number
 pub mod Digits

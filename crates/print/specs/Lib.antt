@@ -1,2 +1,6 @@
+-- Text in a buffer.
+
+-- a buffer and its cursor
 pub mod Page
+-- numbers in digits
 pub mod Numerals

@@ -11,6 +11,7 @@ pub record Page : Type 0 where
   pub bytes : List ℕ
   pub at : ℕ
 
+-- a page with these bytes and this cursor
 abbrev pub page : List ℕ → ℕ → Page
 page bytes at = record { bytes = bytes; at = at }
 

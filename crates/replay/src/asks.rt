@@ -132,7 +132,7 @@ fn sums(
     put_byte(out, at, b'\n')
 }
 
-// Any of them.
+// Runs a call that changes nothing.
 pub(crate) fn tell(
     line: Line,
     state: State,

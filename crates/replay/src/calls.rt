@@ -64,7 +64,7 @@ fn reading(r: Reading, before: State) -> Ran {
     }
 }
 
-// Any of them, with its bytes: an id, a list of ids, or a history.
+// Runs a call that changes the estimator, with its bytes: an id, a list of ids, or a history.
 pub(crate) fn change(
     line: Line,
     state: State,

@@ -49,7 +49,7 @@ fn clear(pending: &mut [u8], recent: &mut [u8], confirmed: &mut [f64], resolved:
     zero(resolved);
 }
 
-// Any of them, over the memory as it is lent.
+// Changes the lent memory itself.
 pub(crate) fn lay(
     line: Line,
     text: &[u8],

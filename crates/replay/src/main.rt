@@ -20,6 +20,7 @@ mod replies;
 mod run;
 mod words;
 
+// Reads the script, lends the memory, and runs it.
 fn main() {
     let mut script = [0u8; MOST_SCRIPT + 1];
     let n = io::read_full(STDIN_FILENO, &mut script);

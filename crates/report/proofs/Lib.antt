@@ -1,3 +1,5 @@
+-- Laws of what `show` prints.
+
 -- pieces written one after the other
 pub mod Pieces
 -- the lines of the targets

@@ -2,6 +2,7 @@
 use Prim.Native.Nat.{ℕ}
 use mathlib.Core.List.{List, [], _∷_}
 
+-- text, as ASCII codes
 abbrev pub Text : Type 0
 Text = List ℕ
 

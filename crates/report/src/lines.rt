@@ -26,7 +26,7 @@ fn put_line(out: &mut [u8], at: usize, word: &[u8], text: &[u8]) -> usize
     put_byte(out, b, b'\n')
 }
 
-// That a file is refused, and why, at the start of the page.
+// Puts the line that a file is refused, and why, at the start of the page.
 pub(crate) fn put_refused(out: &mut [u8], name: &[u8]) -> usize
     ensures { λ r. ⌜ page (now (out .exit)) r ≡ writes (line refused (now (name .entry))) (page (now (out .entry)) 0) ⌝ }
 {
@@ -65,7 +65,7 @@ pub(crate) fn put_state(out: &mut [u8], at: usize, state: State) -> usize
     put_number(out, b, b"confirmed ", recent as u64)
 }
 
-// That a file's version is not known.
+// Puts the line that a file's version is not known.
 pub(crate) fn put_version(out: &mut [u8], at: usize, v: u32) -> usize
     ensures { λ r. ⌜ page (now (out .exit)) r ≡ writes (refusal (unknown-version v)) (page (now (out .entry)) at) ⌝ }
 {

@@ -24,6 +24,7 @@ pub record Filled : Type 0 where
   pub answer : Decoded
   pub bytes : List ℕ
 
+-- an answer with these bytes after it
 abbrev pub filled : Decoded → List ℕ → Filled
 filled answer bytes = record { answer = answer; bytes = bytes }
 

@@ -12,6 +12,7 @@ unfoldable pub once-after : Id → List (List ℕ) → List (List ℕ)
 once-after i [] = []
 once-after i (r ∷ rs) = cond (same i (id-of r)) (once-after i rs) (r ∷ once-after (id-of r) rs)
 
+-- of neighbours with one id the first stays
 unfoldable pub once : List (List ℕ) → List (List ℕ)
 once [] = []
 once (r ∷ rs) = r ∷ once-after (id-of r) rs

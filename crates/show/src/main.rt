@@ -5,6 +5,7 @@ use libc::STDOUT_FILENO;
 use report::LONGEST;
 use report::PAGE;
 
+// Reads the file, and prints what `report` makes of it.
 fn main() {
     let mut file = [0u8; LONGEST + 1];
     let n = io::read_full(STDIN_FILENO, &mut file);

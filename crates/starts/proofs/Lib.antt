@@ -1,1 +1,4 @@
+-- A fresh start.
+
+-- cleared memory holds the fresh estimator
 pub mod Starting
