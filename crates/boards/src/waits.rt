@@ -20,6 +20,17 @@ pub fn waited(entry: Height, h: Height) -> Blocks
     }
 }
 
+// How many whole widths a wait has. (Columns of one block need no division, which a pass over many records would pay for.)
+fn whole_widths(wait: u32, width: Blocks) -> u32
+    requires { ⌜ 0 < width .0 ⌝ }
+    ensures { λ r. ⌜ r ≡ wait / width .0 ⌝ }
+{
+    if width.0 == 1 {
+        return wait;
+    }
+    wait / width.0
+}
+
 // How many columns a record has outwaited at height h.
 pub fn outwaited(h: Height, entry: Height, width: Blocks) -> u32
     requires { ⌜ 0 < width .0 ⌝ }
@@ -31,6 +42,6 @@ pub fn outwaited(h: Height, entry: Height, width: Blocks) -> u32
     if n <= e {
         return 0;
     }
-    let c = (n - e) / width.0;
+    let c = whole_widths(n - e, width);
     if c <= most { c } else { most }
 }

@@ -13,4 +13,4 @@ returns c =
     sym (rw (e, zero-div) refl)
 
 pub outwaited-spec : {M : Type 1} → statement M
-outwaited-spec = tie.close (tie.spec (λ c. search needs) returns (λ c. search needs) (λ c. search needs) (λ c. search needs) (λ c. search needs))
+outwaited-spec = tie.close (tie.spec (λ c. search needs) returns (λ c. search needs) (λ c κs. search needs) (λ c. search needs) (λ c. search needs))
