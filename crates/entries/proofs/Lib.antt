@@ -1,4 +1,4 @@
 -- Entering and leaving.
 
--- what the search finds decides the call
-pub mod Searched
+-- each answer is the definition's
+pub mod Answered

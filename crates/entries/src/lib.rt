@@ -14,8 +14,8 @@ use kinds::State;
 use table::Found;
 use table::capacity;
 use table::find;
+use table::forget;
 use table::insert_pending;
-use table::remove;
 ghost use mathlib.Core.Path.{_≡_};
 ghost use Rattle.kinds.specs.Answers.{enter-answer, leave-answer};
 ghost use Rattle.rules.specs.Board.{board-of};
@@ -73,18 +73,15 @@ pub fn tx_left(state: State, pending: &mut [u8], id: &[u8; 32], on: Horizon) -> 
             state,
         };
     }
-    let size = record_size(on);
-    match find(pending, size, used, id) {
-        Found::Gap(_) => Left {
+    let left = forget(pending, used, id, on);
+    if left == used {
+        return Left {
             answer: LeaveAnswer::Absent,
             state,
-        },
-        Found::At(at) => {
-            remove(pending, size, used, at);
-            Left {
-                answer: LeaveAnswer::Done,
-                state: state.with_pending(used - 1),
-            }
-        }
+        };
+    }
+    Left {
+        answer: LeaveAnswer::Done,
+        state: state.with_pending(left),
     }
 }

@@ -1,4 +1,4 @@
--- `entries::tx_entered` meets its contract: each of its answers is the definition's, by the laws of `Searched`. Assumes nothing.
+-- `entries::tx_entered` meets its contract: each of its answers is the definition's, by the laws of `Answered`. Assumes nothing.
 use mathlib.Core.Path.{_≡_, sym, ap, _∙_}
 use mathlib.Core.Bool.{true}
 use Prim.Native.Nat.{ℕ, _+_, _*_, _<_, _≤_}
@@ -15,7 +15,7 @@ use Rattle.rules.proofs.Memory.{pending-table, pending-within}
 use Rattle.table.specs.declared.Found.the-variants.{Gap}
 use Rattle.rules.proofs.Bytes.{are-bytes}
 use Rattle.table.proofs.ById.{searchable, told, gap-used}
-use Rattle.entries.proofs.Searched.{Given, Ends, one-more, enter-damaged, enter-there, enter-full, enter-done}
+use Rattle.entries.proofs.Answered.{Given, Ends, one-more, enter-damaged, enter-there, enter-full, enter-done}
 use borrow.Author.Needs.{needs}
 use Rattle.entries.proofs.tx_entered.Statement.{statement}
 use Rattle.entries.proofs.tx_entered.Tie as tie
