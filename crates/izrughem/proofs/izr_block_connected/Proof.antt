@@ -26,12 +26,6 @@ returns : tie.Need-returns
 unfolding izr-block-connected
 returns c = unfit _ _ _ _ _ (sym (c .before .holds-state .ensures) ∙ not-true _ (c .if1 .taken))
 
-state-in-requires : tie.Need-state-in-requires
-state-in-requires c κs = held (c .before)
-
-put-state-requires : tie.Need-put-state-requires
-put-state-requires c κs = let e = c .before .before .before .before .before .before .before .before .before .before .before .before .before .before .before .before .before in four (now (start e .args .state)) (held e)
-
 returns-2 : tie.Need-returns-2
 unfolding izr-block-connected
 returns-2 c =
@@ -50,9 +44,9 @@ izr-block-connected-spec =
     (λ c κs. search needs)
     (λ c. search needs)
     returns
-    state-in-requires
+    (λ c κs. held (c .before))
     (λ c κs. search needs)
-    put-state-requires
+    (λ c κs. four _ (held (c .before .before .before .before .before .before .before .before .before .before .before .before .before .before .before .before .before)))
     (λ c κs. search needs)
     (λ c. search needs)
     (λ c. search needs)

@@ -28,9 +28,6 @@ returns-2 : tie.Need-returns-2
 unfolding izr-estimate
 returns-2 c = unfit _ _ _ _ _ (not-second (holds-state (now (start (c .before) .args .state))) _ (no-word (now (start (c .before) .args .carried)) (c .if2 .taken)))
 
-state-in-requires : tie.Need-state-in-requires
-state-in-requires c κs = held (c .before)
-
 returns-3 : tie.Need-returns-3
 unfolding izr-estimate
 returns-3 c =
@@ -50,7 +47,7 @@ izr-estimate-spec =
     (λ c κs. search needs)
     returns
     returns-2
-    state-in-requires
+    (λ c κs. held (c .before))
     (λ c κs. search needs)
     (λ c κs. search needs)
     (λ c. search needs)

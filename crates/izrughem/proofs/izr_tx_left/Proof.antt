@@ -32,12 +32,6 @@ returns-2 : tie.Need-returns-2
 unfolding izr-tx-left
 returns-2 c = unfit _ _ _ _ _ (not-second (holds-state (now (start (c .before) .args .state))) _ (ne-eqb (length (now (start (c .before) .args .id))) 32 (c .if2 .taken)))
 
-state-in-requires : tie.Need-state-in-requires
-state-in-requires c κs = held (c .before .before .before)
-
-put-state-requires : tie.Need-put-state-requires
-put-state-requires c κs = let e = c .before .before .before .before .before .before .before .before .before .before .before in four (now (start e .args .state)) (held e)
-
 returns-3 : tie.Need-returns-3
 unfolding izr-tx-left
 returns-3 c =
@@ -60,9 +54,9 @@ izr-tx-left-spec =
     (λ c. search needs)
     returns-2
     (λ c κs. search needs)
-    state-in-requires
+    (λ c κs. held (c .before .before .before))
     (λ c κs. search needs)
-    put-state-requires
+    (λ c κs. four _ (held (c .before .before .before .before .before .before .before .before .before .before .before)))
     (λ c κs. search needs)
     (λ c. search needs)
     (λ c. search needs)
