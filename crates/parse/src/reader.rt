@@ -28,28 +28,13 @@ impl<'a> Reader<'a> {
     }
 }
 
-// What a reader of s holds after n bytes were taken.
-fn after(s: &[u8], n: usize) -> &[u8]
-    ensures { λ r. ⌜ now r ≡ drop n (now (s .entry)) ⌝ }
-{
-    let mut r = new(s);
-    r.take(n);
-    r.bytes
-}
-
-// What a reader of s hands back as the first n bytes.
-fn first(s: &[u8], n: usize) -> &[u8]
-    ensures { λ r. ⌜ (r .ptr ≡ s .entry .ptr) × (now r ≡ take n (now (s .entry))) ⌝ }
-{
-    let mut r = new(s);
-    r.take(n)
-}
-
-// The n bytes after the first `at`.
+// The n bytes after the first `at`: a reader takes those, and then these.
 pub fn part(s: &[u8], at: usize, n: usize) -> &[u8]
     ensures { λ r. ⌜ now r ≡ take n (drop at (now (s .entry))) ⌝ }
 {
-    first(after(s, at), n)
+    let mut r = new(s);
+    r.take(at);
+    r.take(n)
 }
 
 // The number in the four bytes after the first `at`.
