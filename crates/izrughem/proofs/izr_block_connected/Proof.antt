@@ -22,10 +22,6 @@ start c = c .before .before .before .before .before .before .before .before .bef
 held : (c : tie.Else1) → holds-state (now (start c .args .state)) ≡ true
 held c = sym (c .before .holds-state .ensures) ∙ not-false _ (c .if1 .left)
 
-returns : tie.Need-returns
-unfolding izr-block-connected
-returns c = unfit _ _ _ _ _ (sym (c .before .holds-state .ensures) ∙ not-true _ (c .if1 .taken))
-
 returns-2 : tie.Need-returns-2
 unfolding izr-block-connected
 returns-2 c =
@@ -38,12 +34,13 @@ returns-2 c =
     fits _ _ _ _ _ (held e) _ (tells (now (a .state)) _ _ _ _ (called .block-connected .ensures ∙ same) _ _ (c .number .ensures) (put .put-state .ensures))
 
 pub izr-block-connected-spec : {M : Type 1} → statement M
+unfolding izr-block-connected
 izr-block-connected-spec =
     tie.close
     (tie.spec
     (λ c κs. search needs)
     (λ c. search needs)
-    returns
+    (λ c. unfit _ _ _ _ _ (sym (c .before .holds-state .ensures) ∙ not-true _ (c .if1 .taken)))
     (λ c κs. held (c .before))
     (λ c κs. search needs)
     (λ c κs. four _ (held (c .before .before .before .before .before .before .before .before .before .before .before .before .before .before .before .before .before)))

@@ -12,14 +12,6 @@ use Rattle.izrughem.proofs.izr_from_history_bytes.Tie as tie
 abbrev start : tie.Else1 → tie.Start
 start c = c .before .before .before .before .before .before .before .before
 
-returns : tie.Need-returns
-unfolding izr-from-history-bytes
-returns c = unfit _ _ _ _ _ (not-first _ _ (lt-leb 4 _ (c .if1 .taken)))
-
-returns-2 : tie.Need-returns-2
-unfolding izr-from-history-bytes
-returns-2 c = unfit _ _ _ _ _ (not-second (leb 4 (length (now (start (c .before) .args .state)))) _ (no-word (now (start (c .before) .args .carried)) (c .if2 .taken)))
-
 returns-3 : tie.Need-returns-3
 unfolding izr-from-history-bytes
 returns-3 c =
@@ -32,11 +24,12 @@ returns-3 c =
     (begins (now (a .state)) _ _ _ _ (called .from-history-bytes .ensures) (now (a .carried)) _ _ _ (t .0) (t .1 .0) (t .1 .1))
 
 pub izr-from-history-bytes-spec : {M : Type 1} → statement M
+unfolding izr-from-history-bytes
 izr-from-history-bytes-spec =
     tie.close
     (tie.spec
-    returns
-    returns-2
+    (λ c. unfit _ _ _ _ _ (not-first _ _ (lt-leb 4 _ (c .if1 .taken))))
+    (λ c. unfit _ _ _ _ _ (not-second (leb 4 (length (now (start (c .before) .args .state)))) _ (no-word (now (start (c .before) .args .carried)) (c .if2 .taken))))
     (λ c κs. search needs)
     (λ c κs. search needs)
     (λ c. search needs)

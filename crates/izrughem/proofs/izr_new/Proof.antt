@@ -11,10 +11,6 @@ use Rattle.izrughem.proofs.Calls.{unfit, fits, begins, carry-none}
 use Rattle.izrughem.proofs.izr_new.Statement.{statement}
 use Rattle.izrughem.proofs.izr_new.Tie as tie
 
-returns : tie.Need-returns
-unfolding izr-new
-returns c = unfit _ _ _ _ _ (lt-leb 4 _ (c .if1 .taken))
-
 returns-2 : tie.Need-returns-2
 unfolding izr-new
 returns-2 c =
@@ -28,10 +24,11 @@ returns-2 c =
     fits _ _ _ _ _ (le-leb 4 _ (e .if1 .left)) _ (begins ws _ _ _ _ (called .new .ensures) [] _ _ _ (told .0 ∙ n .number .ensures) (told .1 ∙ ap same (n .number .ensures)) (carry-none _))
 
 pub izr-new-spec : {M : Type 1} → statement M
+unfolding izr-new
 izr-new-spec =
     tie.close
     (tie.spec
-    returns
+    (λ c. unfit _ _ _ _ _ (lt-leb 4 _ (c .if1 .taken)))
     (λ c κs. search needs)
     (λ c κs. search needs)
     (λ c κs. search needs)

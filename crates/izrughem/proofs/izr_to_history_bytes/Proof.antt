@@ -22,14 +22,6 @@ start c = c .before .before .before .before .before .before .before .before .bef
 held : (c : tie.Else1) → holds-state (now (start c .args .state)) ≡ true
 held c = sym (c .before .holds-state .ensures) ∙ not-false _ (c .if1 .left)
 
-returns : tie.Need-returns
-unfolding izr-to-history-bytes
-returns c = unfit _ _ _ _ _ (not-first _ _ (sym (c .before .holds-state .ensures) ∙ not-true _ (c .if1 .taken)))
-
-returns-2 : tie.Need-returns-2
-unfolding izr-to-history-bytes
-returns-2 c = unfit _ _ _ _ _ (not-second (holds-state (now (start (c .before) .args .state))) _ (no-word (now (start (c .before) .args .carried)) (c .if2 .taken)))
-
 returns-3 : tie.Need-returns-3
 unfolding izr-to-history-bytes
 returns-3 c =
@@ -43,12 +35,13 @@ returns-3 c =
     fits _ _ _ _ _ (both _ _ (held e) (a-word (now (a .carried)) (w .before .if2 .left))) _ (writes _ _ _ _ _ _ _ (called .to-history-bytes .ensures ∙ same) _ _ (t .0) (t .1))
 
 pub izr-to-history-bytes-spec : {M : Type 1} → statement M
+unfolding izr-to-history-bytes
 izr-to-history-bytes-spec =
     tie.close
     (tie.spec
     (λ c κs. search needs)
-    returns
-    returns-2
+    (λ c. unfit _ _ _ _ _ (not-first _ _ (sym (c .before .holds-state .ensures) ∙ not-true _ (c .if1 .taken))))
+    (λ c. unfit _ _ _ _ _ (not-second (holds-state (now (start (c .before) .args .state))) _ (no-word (now (start (c .before) .args .carried)) (c .if2 .taken))))
     (λ c κs. held (c .before))
     (λ c κs. search needs)
     (λ c κs. search needs)

@@ -24,14 +24,6 @@ start c = c .before .before .before .before .before .before
 held : (c : tie.Else1) → holds-state (now (start c .args .state)) ≡ true
 held c = sym (c .before .holds-state .ensures) ∙ not-false _ (c .if1 .left)
 
-returns : tie.Need-returns
-unfolding izr-tx-left
-returns c = unfit _ _ _ _ _ (not-first _ _ (sym (c .before .holds-state .ensures) ∙ not-true _ (c .if1 .taken)))
-
-returns-2 : tie.Need-returns-2
-unfolding izr-tx-left
-returns-2 c = unfit _ _ _ _ _ (not-second (holds-state (now (start (c .before) .args .state))) _ (ne-eqb (length (now (start (c .before) .args .id))) 32 (c .if2 .taken)))
-
 returns-3 : tie.Need-returns-3
 unfolding izr-tx-left
 returns-3 c =
@@ -45,14 +37,15 @@ returns-3 c =
     fits _ _ _ _ _ (both _ _ (held e) (eq-eqb _ _ (d .before .if2 .left))) _ (tells (now (a .state)) _ _ _ _ (called .tx-left .ensures ∙ same) _ _ (c .number .ensures) (put .put-state .ensures))
 
 pub izr-tx-left-spec : {M : Type 1} → statement M
+unfolding izr-tx-left
 izr-tx-left-spec =
     tie.close
     (tie.spec
     (λ c κs. search needs)
     (λ c. search needs)
-    returns
+    (λ c. unfit _ _ _ _ _ (not-first _ _ (sym (c .before .holds-state .ensures) ∙ not-true _ (c .if1 .taken))))
     (λ c. search needs)
-    returns-2
+    (λ c. unfit _ _ _ _ _ (not-second (holds-state (now (start (c .before) .args .state))) _ (ne-eqb (length (now (start (c .before) .args .id))) 32 (c .if2 .taken))))
     (λ c κs. search needs)
     (λ c κs. held (c .before .before .before))
     (λ c κs. search needs)

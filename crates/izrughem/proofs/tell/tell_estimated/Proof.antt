@@ -5,19 +5,8 @@ use Rattle.izrughem.specs.Calls.{carry, rate-carried}
 use Rattle.izrughem.proofs.tell.tell_estimated.Statement.{statement}
 use Rattle.izrughem.proofs.tell.tell_estimated.Tie as tie
 
-returns : tie.Need-returns
-unfolding rate-carried carry
-returns c = let e = c .enum-told .given .1 in (c .before .before .number .ensures, sym (rw e))
-
-returns-2 : tie.Need-returns-2
-unfolding rate-carried carry
-returns-2 c = let e = c .enum-told2 .given .1 in (c .before .before .number .ensures, sym (rw e))
-
-returns-3 : tie.Need-returns-3
-unfolding rate-carried carry
-returns-3 c = let e = c .before .estimated .given .1 in (c .before .before .before .number .ensures, sym (rw e))
-
 pub tell-estimated-spec : {M : Type 1} → statement M
+unfolding rate-carried carry
 tell-estimated-spec =
     tie.close
     (tie.spec
@@ -27,8 +16,8 @@ tell-estimated-spec =
     (λ c. search needs)
     (λ c. search needs)
     (λ c. search needs)
-    returns
+    (λ c. (c .before .before .number .ensures, sym (rw (c .enum-told .given .1))))
     (λ c. search needs)
-    returns-2
+    (λ c. (c .before .before .number .ensures, sym (rw (c .enum-told2 .given .1))))
     (λ c. search needs)
-    returns-3)
+    (λ c. (c .before .before .before .number .ensures, sym (rw (c .before .estimated .given .1)))))
