@@ -23,6 +23,18 @@ use Rattle.codec.specs.Places.{buckets-size}
 use Rattle.parse.specs.Says.{head-size, filed}
 use Rattle.parse.proofs.Whole.{headed}
 
+-- it has as many records as were counted
+module _ (v : Version) (s : List ℕ) (last : Last) (n m : ℕ) where
+  pub pending-many : length (filed v last n m s .pending) ≡ n
+  pending-many =
+      let at = head-size v last + buckets-size + 4 in
+      length-map (records (v .records .size) n (drop at s)) (v .records .read) ∙ length-records (v .records .size) n (drop at s)
+
+  pub recent-many : length (filed v last n m s .recent) ≡ m
+  recent-many =
+      let at = head-size v last + buckets-size + 4 + n * v .records .size + 4 in
+      length-map (records confirmed-size m (drop at s)) confirmed-of ∙ length-records confirmed-size m (drop at s)
+
 pub record Held (v : Version) (s : List ℕ) (last : Last) (n m : ℕ) : Type 0 where
   pub long : length s ≡ head-size v last + buckets-size + 4 + n * v .records .size + 4 + confirmed-size * m
   pub rows : is-read (read-buckets rates (drop (head-size v last) s)) ≡ true
@@ -32,13 +44,9 @@ module _ (v : Version) (law : LawfulVersion v) (s : List ℕ) (last : Last) (n m
   unfolding history-length
   long =
       let r = read-is-written v law s (filed v last n m s) b h in
-      let at = head-size v last + buckets-size + 4 in
-      let to = at + n * v .records .size + 4 in
-      let p : length (filed v last n m s .pending) ≡ n = length-map (records (v .records .size) n (drop at s)) (v .records .read) ∙ length-records (v .records .size) n (drop at s) in
-      let c : length (filed v last n m s .recent) ≡ m = length-map (records confirmed-size m (drop to s)) confirmed-of ∙ length-records confirmed-size m (drop to s) in
       sym (ap length (r .written))
       ∙ length-history v law (filed v last n m s) (r .writable)
-      ∙ ap₂ (λ (i j : ℕ). 57961 + length (v .after) + height-length last + v .records .size * i + confirmed-size * j) p c
+      ∙ ap₂ (λ (i j : ℕ). 57961 + length (v .after) + height-length last + v .records .size * i + confirmed-size * j) (pending-many v s last n m) (recent-many v s last n m)
       ∙ ap (λ (i : ℕ). 57961 + length (v .after) + height-length last + i + confirmed-size * m) (mul-comm (v .records .size) n)
       ∙ omega arith
 

@@ -1,5 +1,5 @@
 -- `history::read::from_history_bytes` meets its contract: the lengths of the count slices first, then what the check says of the file. Assumes nothing.
-use mathlib.Core.Path.{ap, _∙_, sym}
+use mathlib.Core.Path.{refl, ap, _∙_, sym}
 use native.Mathlib.Omega.{arith}
 use denote.Ref.{now}
 use Rattle.rules.specs.Board.{board-of}
@@ -34,30 +34,6 @@ take-in-requires c κs =
     let k = c .before .before .before .before .before .before .before in
     (read-as _ (k .check .result) (now (start k .args .bytes)) _ (c .before .before .before .before .before .header2 .given .1) (k .check .ensures), (omega arith, omega arith))
 
-returns-3 : tie.Need-returns-3
-unfolding said
-returns-3 c =
-    let k = c .before .before .before in
-    let s = start k in
-    file-refused _ _ (given s) (now (s .args .bytes)) (omega arith) (omega arith) (c .refused3 .result) _ (c .refused3 .ensures)
-    (read-as _ (k .check .result) (now (s .args .bytes)) _ (c .before .enum-told .given .1) (k .check .ensures))
-
-returns-4 : tie.Need-returns-4
-unfolding said
-returns-4 c =
-    let k = c .before .before .before .before in
-    let s = start k in
-    file-refused _ _ (given s) (now (s .args .bytes)) (omega arith) (omega arith) (c .refused4 .result) _ (c .refused4 .ensures)
-    (read-as _ (k .check .result) (now (s .args .bytes)) _ (c .before .before .header .given .1) (k .check .ensures))
-
-returns-5 : tie.Need-returns-5
-unfolding said
-returns-5 c =
-    let k = c .before .before .before in
-    let s = start k in
-    file-refused _ _ (given s) (now (s .args .bytes)) (omega arith) (omega arith) (c .refused5 .result) _ (c .refused5 .ensures)
-    (read-as _ (k .check .result) (now (s .args .bytes)) _ (c .before .enum-told2 .given .1) (k .check .ensures))
-
 returns-6 : tie.Need-returns-6
 unfolding said
 returns-6 c =
@@ -69,6 +45,7 @@ returns-6 c =
     ∙ as-taken _ _ (given s) (now (s .args .bytes)) (omega arith) (omega arith)
 
 pub from-history-bytes-spec : {M : Type 1} → statement M
+unfolding said
 from-history-bytes-spec =
     tie.close
     (tie.spec
@@ -85,9 +62,9 @@ from-history-bytes-spec =
     (λ c κs. search needs)
     (λ c. search needs)
     take-in-requires
-    returns-3
-    returns-4
-    returns-5
+    (λ c. let k = c .before .before .before in file-refused _ _ (given (start k)) _ (omega arith) (omega arith) (k .check .result) _ (c .before .enum-told .given .1) (k .check .ensures) _ _ refl (c .refused3 .ensures))
+    (λ c. let k = c .before .before .before .before in file-refused _ _ (given (start k)) _ (omega arith) (omega arith) (k .check .result) _ (c .before .before .header .given .1) (k .check .ensures) _ _ refl (c .refused4 .ensures))
+    (λ c. let k = c .before .before .before in file-refused _ _ (given (start k)) _ (omega arith) (omega arith) (k .check .result) _ (c .before .enum-told2 .given .1) (k .check .ensures) _ _ refl (c .refused5 .ensures))
     (λ c. search needs)
     (λ c. search needs)
     (λ c. search needs)
