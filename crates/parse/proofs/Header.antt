@@ -37,11 +37,11 @@ takes-after v = takes-as (add-zero (length (v .after))) (takes-then _ (takes-tak
 
 -- ---- the bucket count
 
-pub count-short : (s : List ℕ) (at : ℕ) → at ≤ length s → length s < at + 4 → is-read (read-bucket-count (drop at s)) ≡ false
+count-short : (s : List ℕ) (at : ℕ) → at ≤ length s → length s < at + 4 → is-read (read-bucket-count (drop at s)) ≡ false
 unfolding read-bucket-count is-read
 count-short s at h k = ap is-read (then-stopped (number 4) _ (number-short 4 s at h k))
 
-pub count-is : (s : List ℕ) (at : ℕ) → at + 4 ≤ length s → is-read (read-bucket-count (drop at s)) ≡ eqb (le-at 4 s at) 142
+count-is : (s : List ℕ) (at : ℕ) → at + 4 ≤ length s → is-read (read-bucket-count (drop at s)) ≡ eqb (le-at 4 s at) 142
 unfolding read-bucket-count
 count-is s at h = ap is-read (then-got (number 4) _ (number-at 4 s at h)) ∙ read-must (eqb (le-at 4 s at) 142) (drop (at + 4) s)
 
@@ -57,11 +57,11 @@ with-is last t = go (read-bucket-count t) (takes-bucket-count .of t)
     go (stopped _) nothing = refl
     go (got a _) (took h) = refl
 
-pub with-yes : (last : Last) (t : List ℕ) → is-read (read-bucket-count t) ≡ true → begun (with-bucket-count last t) ≡ good last
-with-yes last t h = with-is last t ∙ rw h
+pub with-short : (last : Last) (s : List ℕ) (at : ℕ) → at ≤ length s → length s < at + 4 → begun (with-bucket-count last (drop at s)) ≡ bad corrupt
+with-short last s at h k = with-is last (drop at s) ∙ rw (count-short s at h k)
 
-pub with-no : (last : Last) (t : List ℕ) → is-read (read-bucket-count t) ≡ false → begun (with-bucket-count last t) ≡ bad corrupt
-with-no last t h = with-is last t ∙ rw h
+pub with-count : (last : Last) (s : List ℕ) (at n : ℕ) → at + 4 ≤ length s → n ≡ le-at 4 s at → begun (with-bucket-count last (drop at s)) ≡ cond (eqb n 142) (good last) (bad corrupt)
+with-count last s at n h e = with-is last (drop at s) ∙ rw (count-is s at h, e)
 
 -- ---- after the version's number
 

@@ -19,7 +19,7 @@ ghost use lib.Seq.{sets};
 ghost use Rattle.rules.specs.Ladder.{buckets};
 ghost use Rattle.rules.specs.Bytes.{bytes};
 ghost use Rattle.format.specs.Parts.{begun, is-read};
-ghost use Rattle.format.specs.File.{version-told, last-bytes, head-bytes, height-length, read-bucket-count, with-bucket-count, read-start, read-after, read-head};
+ghost use Rattle.format.specs.File.{version-told, last-bytes, head-bytes, height-length, with-bucket-count, read-start, read-after, read-head};
 ghost use Rattle.parse.specs.Says.{header-says, head-size};
 
 // BRSEFEES as a number of eight bytes, the first of them lowest.
@@ -33,23 +33,15 @@ pub enum Header {
     Good(Last),
 }
 
-// Whether the bucket count stands at `at`.
-fn counted(s: &[u8], at: usize) -> bool
-    requires { ⌜ at ≤ length (now s) ⌝ }
-    ensures { λ r. ⌜ r ≡ is-read (read-bucket-count (drop at (now (s .entry)))) ⌝ }
-{
-    if s.len() - at < 4 {
-        return false;
-    }
-    number(s, at) == BUCKET_COUNT as u32
-}
-
-// The header's end, after the last height.
+// The header's end, after the last height: the bucket count, at `at`.
 fn ends(s: &[u8], at: usize, last: Last) -> Header
     requires { ⌜ at ≤ length (now s) ⌝ }
     ensures { λ r. ⌜ header-says r ≡ begun (with-bucket-count last (drop at (now (s .entry)))) ⌝ }
 {
-    if counted(s, at) {
+    if s.len() - at < 4 {
+        return Header::Corrupt;
+    }
+    if number(s, at) == BUCKET_COUNT as u32 {
         return Header::Good(last);
     }
     Header::Corrupt
