@@ -1,7 +1,5 @@
 -- Laws of reading a file.
 
--- what stands in bytes that the Reader hands back
-pub mod Taken
 -- bytes are the same as a number's exactly when their number is
 pub mod Same
 -- what the parts of the header read
@@ -14,5 +12,3 @@ pub mod Whole
 pub mod Judged
 -- what is known of a file that was read
 pub mod Held
--- a Reader in a local that is lent and comes back
-pub mod Lent

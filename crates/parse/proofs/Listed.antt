@@ -16,7 +16,7 @@ use Rattle.rules.specs.Records.{records}
 use Rattle.rules.specs.Board.{Pending, pending-of, confirmed-size, confirmed-of, in-range, pending-most, confirmed-most}
 use Rattle.rules.proofs.Records.{and-left, and-right}
 use Rattle.mem.specs.Le.{le-at}
-use Rattle.parse.proofs.Taken.{long-taken, records-taken}
+use Rattle.reader.proofs.Taken.{long-taken, records-taken}
 use Rattle.format.specs.Parts.{stopped, got, Part, give, number, times, bad, good, ended}
 use Rattle.format.specs.File.{Version, version-told, read-pending, read-confirmed, read-table, Tables, read-tables}
 use Rattle.codec.proofs.Tells.{then-got, then-stopped, must-yes, must-no, number-at, number-short, Tells, tells-give, tells-must, tells-to, tells-then, tells-last, tells-takes, Takes, too-short, takes-give, takes-as, takes-takes, takes-if, takes-then, takes-times}

@@ -1,9 +1,9 @@
 // The buckets of a file, the bytes of each taken as one part.
-use crate::reader::part;
 use codec::buckets::bucket_ok;
 use codec::buckets::load_bucket;
 use kinds::BUCKET_COUNT;
 use kinds::BUCKET_SIZE;
+use reader::part;
 ghost use mathlib.Core.Path.{_≡_};
 ghost use mathlib.Core.Bool.{true};
 ghost use mathlib.Core.List.{_++_};

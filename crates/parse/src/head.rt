@@ -1,6 +1,4 @@
 // The header: magic, version and what stands after it, last height, bucket count.
-use crate::reader::number;
-use crate::reader::part;
 use crate::version::after_len;
 use crate::version::number_of;
 use codec::numbers::put_u8;
@@ -11,6 +9,8 @@ use kinds::FileVersion;
 use kinds::Height;
 use kinds::Last;
 use kinds::WIDE_WIDTH;
+use reader::number;
+use reader::part;
 ghost use mathlib.Core.Path.{_≡_};
 ghost use mathlib.Core.List.{_++_};
 ghost use Prim.Native.Nat.{_+_, _≤_};

@@ -1,7 +1,6 @@
 // The history file: its header, put and read, its buckets and tables, and the whole of it, judged before anything is stored.
 mod buckets;
 mod head;
-mod reader;
 mod tables;
 mod version;
 
@@ -14,7 +13,6 @@ use head::read_header;
 use kinds::BUCKETS_SIZE;
 use kinds::FileVersion;
 use kinds::Last;
-pub use reader::part;
 use tables::read_tables;
 pub use version::record_size;
 ghost use mathlib.Core.Path.{_≡_};

@@ -1,11 +1,11 @@
 // The two tables of a file, and its end.
-use crate::reader::number;
-use crate::reader::part;
 use crate::version::record_size;
 use kinds::CONFIRMED_SIZE;
 use kinds::FileVersion;
 use kinds::MAX_CONFIRMED_RECORDS;
 use kinds::MAX_PENDING_ENTRIES;
+use reader::number;
+use reader::part;
 ghost use mathlib.Core.Path.{_≡_};
 ghost use mathlib.Core.Bool.{true, false};
 ghost use Prim.Native.Nat.{_≤_};

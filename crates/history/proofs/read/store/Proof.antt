@@ -21,7 +21,7 @@ use Rattle.format.proofs.Back.{version-lawful}
 use Rattle.codec.specs.Places.{buckets-size, rows-at}
 use Rattle.parse.specs.Says.{head-size}
 use Rattle.parse.proofs.Held.{Held, held}
-use Rattle.parse.proofs.Taken.{long-taken, records-taken}
+use Rattle.reader.proofs.Taken.{long-taken, records-taken}
 use Rattle.history.proofs.Same.{same-records, same-size}
 use Rattle.history.proofs.Stored.{table-as, stored}
 use borrow.Author.Needs.{needs}

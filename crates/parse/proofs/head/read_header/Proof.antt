@@ -14,7 +14,7 @@ use Rattle.format.specs.Parts.{bad, begun}
 use Rattle.format.specs.File.{version-told, magic}
 use Rattle.parse.specs.Says.{header-says}
 use Rattle.parse.proofs.Same.{is-magic}
-use Rattle.parse.proofs.Taken.{number-taken, long-taken}
+use Rattle.reader.proofs.Taken.{number-taken, long-taken}
 use Rattle.parse.proofs.Header.{after-room, head-short, head-other, head-no-version, head-version, head-width, head-rest}
 use borrow.Author.Needs.{needs}
 use Rattle.parse.proofs.head.read_header.Statement.{statement}

@@ -8,7 +8,7 @@ use Rattle.kinds.specs.declared.Last.the-variants.{At}
 use Rattle.format.specs.Parts.{begun}
 use Rattle.format.specs.File.{with-bucket-count}
 use Rattle.parse.specs.Says.{header-says}
-use Rattle.parse.proofs.Taken.{long-taken, byte-taken}
+use Rattle.reader.proofs.Taken.{long-taken, byte-taken}
 use Rattle.parse.proofs.Header.{no-flag, flag-none, flag-other, flag-short, flag-at}
 use borrow.Author.Needs.{needs}
 use Rattle.parse.proofs.head.starts.Statement.{statement}

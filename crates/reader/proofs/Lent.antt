@@ -41,11 +41,11 @@ use denote.Struct.Steps.{spelt}
 use denote.Triple.Statement.{Contract}
 use denote.Triple.Spec.{tripleOf}
 use denote.Triple.Clauses.{ensured, lasts}
-use Rattle.parse.specs.declared.reader.Reader.{Reader}
-use Rattle.parse.proofs.reader.Reader as T
-use Rattle.parse.proofs.reader.Reader.Laws as T′
-use Rattle.parse.proofs.reader.new as new
-use Rattle.parse.proofs.reader.Reader.take as take
+use Rattle.reader.specs.declared.Reader.{Reader}
+use Rattle.reader.proofs.Reader as T
+use Rattle.reader.proofs.Reader.Laws as T′
+use Rattle.reader.proofs.new as new
+use Rattle.reader.proofs.Reader.take as take
 
 -- the machine value that a slice has, and its type
 abbrev pub value : RefT (List ℕ) → Val

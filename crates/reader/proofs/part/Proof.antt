@@ -1,4 +1,4 @@
--- `parse::reader::part` meets its contract: a walk of its MIR, by hand. A reader is made in a local, which is lent twice, each time for a lifetime of its own, and comes back (`Lent.antt`); what the first `take` handed back is dropped, and what the second one did is handed on.
+-- `reader::part` meets its contract: a walk of its MIR, by hand. A reader is made in a local, which is lent twice, each time for a lifetime of its own, and comes back (`Lent.antt`); what the first `take` handed back is dropped, and what the second one did is handed on.
 -- Assumes nothing.
 use mathlib.Core.Path.{_≡_, refl, ap, _∙_}
 use Prim.Native.Nat.{ℕ, _<_, _^_}
@@ -36,22 +36,22 @@ use denote.Triple.Table.{entered, cited}
 use denote.Triple.Walked.{says, Stays, stay-none, stay-none-slice, walkOf, goes-none, goes-none-slice, Walks, ends-at, walked, walk-meets}
 use denote.Triple.Clauses.{ensured}
 use denote.Exit.{yes}
-use Rattle.parse.specs.declared.reader.Reader.{Reader}
-use Rattle.parse.proofs.reader.Reader as T
-use Rattle.parse.proofs.reader.Reader.Laws as T′
-use Rattle.parse.proofs.Lent.{value, R, B, Last, Said, New, Take, to-new, goes-new, new-said, lies, back, to-take, Asked, lends, Back, gives-back}
-use Rattle.parse.proofs.reader.new as new
-use Rattle.parse.proofs.reader.new.Symbol as new-def
-use Rattle.parse.proofs.reader.new.Symbol.{name as #reader·new}
-use Rattle.parse.proofs.reader.new.Met as new-thm
-use Rattle.parse.proofs.reader.Reader.take as take
-use Rattle.parse.proofs.reader.Reader.take.Symbol as take-def
-use Rattle.parse.proofs.reader.Reader.take.Symbol.{name as #reader·take}
-use Rattle.parse.proofs.reader.Reader.take.Met as take-thm
-use Rattle.parse.proofs.reader.part.Key.{name as #reader·part}
-use Rattle.parse.proofs.reader.part as part
-use Rattle.parse.proofs.reader.part.Statement as stated
-use Rattle.parse.proofs.reader.part.Code as code
+use Rattle.reader.specs.declared.Reader.{Reader}
+use Rattle.reader.proofs.Reader as T
+use Rattle.reader.proofs.Reader.Laws as T′
+use Rattle.reader.proofs.Lent.{value, R, B, Last, Said, New, Take, to-new, goes-new, new-said, lies, back, to-take, Asked, lends, Back, gives-back}
+use Rattle.reader.proofs.new as new
+use Rattle.reader.proofs.new.Symbol as new-def
+use Rattle.reader.proofs.new.Symbol.{name as #reader·new}
+use Rattle.reader.proofs.new.Met as new-thm
+use Rattle.reader.proofs.Reader.take as take
+use Rattle.reader.proofs.Reader.take.Symbol as take-def
+use Rattle.reader.proofs.Reader.take.Symbol.{name as #reader·take}
+use Rattle.reader.proofs.Reader.take.Met as take-thm
+use Rattle.reader.proofs.part.Key.{name as #reader·part}
+use Rattle.reader.proofs.part as part
+use Rattle.reader.proofs.part.Statement as stated
+use Rattle.reader.proofs.part.Code as code
 
 abbrev stayed : Stays (part.ended .signature .params) (part.ended .kept)
 stayed = (stay-none-slice (0 ∷ []) tt (plain (λ _. u8)) yes, (stay-none (λ _. usize) yes, (stay-none (λ _. usize) yes, tt)))
@@ -138,5 +138,5 @@ part-spec 𝓤 H 𝓜 𝓖 𝓡 =
     entered 𝓤 H (tripleOf 𝓤 H (𝓖 .A) part.signature (part.spec 𝓤 H (𝓖 .A) (𝓜 .mem) (𝓡 .run)))
     (tables 𝓤 H 𝓜 𝓡 code.env .C) (tables 𝓤 H 𝓜 𝓡 code.env .Λ) #reader·part code.function (code.unfolded 𝓤 H 𝓜 𝓡)
     (part-meets 𝓤 H (𝓖 .A) (givenOf 𝓤 H 𝓜 𝓖) (𝓜 .mem) (𝓡 .run) (tablesOf 𝓤 H 𝓜 (tables 𝓤 H 𝓜 𝓡 code.env))
-    (cited 𝓤 H (New 𝓤 H (𝓖 .A) (𝓜 .mem) (𝓡 .run)) 𝓜 𝓡 code.env #reader·new new-def.routine code.calls-parse·reader·new (new-thm.met 𝓤 H 𝓜 𝓖 𝓡))
-    (cited 𝓤 H (Take 𝓤 H (𝓖 .A) (𝓜 .mem) (𝓡 .run)) 𝓜 𝓡 code.env #reader·take take-def.routine code.calls-parse·reader·Reader·take (take-thm.met 𝓤 H 𝓜 𝓖 𝓡)))
+    (cited 𝓤 H (New 𝓤 H (𝓖 .A) (𝓜 .mem) (𝓡 .run)) 𝓜 𝓡 code.env #reader·new new-def.routine code.calls-reader·new (new-thm.met 𝓤 H 𝓜 𝓖 𝓡))
+    (cited 𝓤 H (Take 𝓤 H (𝓖 .A) (𝓜 .mem) (𝓡 .run)) 𝓜 𝓡 code.env #reader·take take-def.routine code.calls-reader·Reader·take (take-thm.met 𝓤 H 𝓜 𝓖 𝓡)))

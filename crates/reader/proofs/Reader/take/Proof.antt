@@ -1,4 +1,4 @@
--- `parse::reader::Reader::take` meets its contract: a walk of its MIR, by hand. The borrow of the struct is opened, the slice that it holds is copied out, `codec::numbers::rest` gives the slice that takes its place, the borrow is closed at the struct with that one, and `codec::numbers::take` gives the result.
+-- `reader::Reader::take` meets its contract: a walk of its MIR, by hand. The borrow of the struct is opened, the slice that it holds is copied out, `codec::numbers::rest` gives the slice that takes its place, the borrow is closed at the struct with that one, and `codec::numbers::take` gives the result.
 -- What a `&[u8]` owns can be had twice, so each callee is handed its own.
 -- Assumes nothing.
 use mathlib.Core.Path.{_≡_, refl, sym, subst}
@@ -45,9 +45,9 @@ use denote.Triple.Table.{entered, cited}
 use denote.Triple.Walked.{says, Stays, stay-ref, stay-none, walkOf, goes-none, goes-ref, Walks, ends-at, walked, walk-meets}
 use denote.Exit.{yes}
 use denote.Triple.Clauses.{ensured, lasts}
-use Rattle.parse.specs.declared.reader.Reader.{Reader}
-use Rattle.parse.proofs.reader.Reader as T
-use Rattle.parse.proofs.reader.Reader.Laws as T′
+use Rattle.reader.specs.declared.Reader.{Reader}
+use Rattle.reader.proofs.Reader as T
+use Rattle.reader.proofs.Reader.Laws as T′
 use Rattle.codec.proofs.numbers.take as take
 use Rattle.codec.proofs.numbers.take.Symbol as take-def
 use Rattle.codec.proofs.numbers.take.Symbol.{name as #codec·take}
@@ -56,10 +56,10 @@ use Rattle.codec.proofs.numbers.rest as cut
 use Rattle.codec.proofs.numbers.rest.Symbol as cut-def
 use Rattle.codec.proofs.numbers.rest.Symbol.{name as #codec·rest}
 use Rattle.codec.proofs.numbers.rest.Met as cut-thm
-use Rattle.parse.proofs.reader.Reader.take.Key.{name as #reader·step}
-use Rattle.parse.proofs.reader.Reader.take as step
-use Rattle.parse.proofs.reader.Reader.take.Statement as stated
-use Rattle.parse.proofs.reader.Reader.take.Code as code
+use Rattle.reader.proofs.Reader.take.Key.{name as #reader·step}
+use Rattle.reader.proofs.Reader.take as step
+use Rattle.reader.proofs.Reader.take.Statement as stated
+use Rattle.reader.proofs.Reader.take.Code as code
 
 -- 'a, and the struct's type at it
 abbrev α : Lft → NamedLft

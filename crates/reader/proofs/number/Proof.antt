@@ -1,11 +1,11 @@
--- `parse::reader::number` meets its contract: the number of the part that is taken. Assumes nothing.
+-- `reader::number` meets its contract: the number of the part that is taken. Assumes nothing.
 use mathlib.Core.Path.{_∙_}
 use native.Mathlib.Omega.{arith}
 use denote.Ref.{now}
-use Rattle.parse.proofs.Taken.{number-taken, long-taken}
+use Rattle.reader.proofs.Taken.{number-taken, long-taken}
 use borrow.Author.Needs.{needs}
-use Rattle.parse.proofs.reader.number.Statement.{statement}
-use Rattle.parse.proofs.reader.number.Tie as tie
+use Rattle.reader.proofs.number.Statement.{statement}
+use Rattle.reader.proofs.number.Tie as tie
 
 u32-le-requires : tie.Need-u32-le-requires
 u32-le-requires c κs = let a = c .before .before .args in let n = long-taken 4 (a .s .now) (a .at) (now (c .part .result)) (c .part .ensures) (omega arith) in omega (arith, n)

@@ -1,4 +1,4 @@
--- `parse::reader::new` meets its contract: a walk of its MIR, by hand. A `Reader` is made of the slice passed, in the result's local.
+-- `reader::new` meets its contract: a walk of its MIR, by hand. A `Reader` is made of the slice passed, in the result's local.
 -- A `&[u8]` is Copy, so what it owns is had twice: once for src at exit, and once inside the result.
 -- Assumes nothing.
 use mathlib.Core.Path.{refl}
@@ -33,13 +33,13 @@ use denote.Triple.Spec.{Meets, tripleOf}
 use denote.Triple.Table.{entered}
 use denote.Triple.Walked.{says, Stays, stay-none-slice, walkOf, goes-none-slice, Walks, ends-at, walked, walk-meets}
 use denote.Exit.{yes}
-use Rattle.parse.specs.declared.reader.Reader.{Reader}
-use Rattle.parse.proofs.reader.Reader as T
-use Rattle.parse.proofs.reader.Reader.Laws as T′
-use Rattle.parse.proofs.reader.new.Key.{name as #reader·new}
-use Rattle.parse.proofs.reader.new as new
-use Rattle.parse.proofs.reader.new.Statement as stated
-use Rattle.parse.proofs.reader.new.Code as code
+use Rattle.reader.specs.declared.Reader.{Reader}
+use Rattle.reader.proofs.Reader as T
+use Rattle.reader.proofs.Reader.Laws as T′
+use Rattle.reader.proofs.new.Key.{name as #reader·new}
+use Rattle.reader.proofs.new as new
+use Rattle.reader.proofs.new.Statement as stated
+use Rattle.reader.proofs.new.Code as code
 
 abbrev stayed : Stays (new.ended .signature .params) (new.ended .kept)
 stayed = (stay-none-slice (0 ∷ []) tt (plain (λ _. u8)) yes, tt)

@@ -1,4 +1,5 @@
-// A reader of the history's bytes: a thin record that holds what is left of them. Its step takes the record apart and calls the covered functions on parts of lent bytes.
+// The Reader of the file's bytes, and what is taken through it. It is a thin record that holds what is left of them; its step takes the record apart and
+// calls `codec::numbers` on parts of the lent bytes. A struct that holds a reference is walked by hand: what is over it takes plain parameters.
 ghost use mathlib.Core.Path.{_≡_};
 ghost use Prim.Native.Nat.{_+_, _≤_};
 ghost use lib.ListN.{length, take, drop};
@@ -10,7 +11,7 @@ pub struct Reader<'a> {
 }
 
 // A reader of all these bytes.
-pub(crate) fn new<'a>(bytes: &'a [u8]) -> Reader<'a>
+fn new<'a>(bytes: &'a [u8]) -> Reader<'a>
     ensures { λ r. ⌜ r .bytes ≡ bytes .entry ⌝ }
 {
     Reader { bytes }
@@ -38,7 +39,7 @@ pub fn part(s: &[u8], at: usize, n: usize) -> &[u8]
 }
 
 // The number in the four bytes after the first `at`.
-pub(crate) fn number(s: &[u8], at: usize) -> u32
+pub fn number(s: &[u8], at: usize) -> u32
     requires { ⌜ at + 4 ≤ length (now s) ⌝ }
     ensures { λ r. ⌜ r ≡ le-at 4 (now (s .entry)) at ⌝ }
 {
