@@ -84,9 +84,6 @@ insert-pending-requires c κs =
     let k = given (start e) in
     ((gap-used (board (start e) .table .size) (k .state .pending) (g .at .given .0 .0) (k .table) (k .id) (gap g), room o .1), search needs)
 
-add-with-pending : tie.Need-add-with-pending
-add-with-pending c = omega (arith, room (c .before .before .before .before .before .before))
-
 returns-3 : tie.Need-returns-3
 returns-3 c =
     let e = c .before .before .before .before .before .before in
@@ -123,7 +120,7 @@ tx-entered-spec =
     (λ c κs. search needs)
     cast-bucket
     insert-pending-requires
-    add-with-pending
+    (λ c. omega (arith, room (c .before .before .before .before .before .before)))
     (λ c κs. search needs)
     (λ c. search needs)
     returns-3

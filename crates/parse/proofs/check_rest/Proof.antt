@@ -9,9 +9,6 @@ use borrow.Author.Needs.{needs}
 use Rattle.parse.proofs.check_rest.Statement.{statement}
 use Rattle.parse.proofs.check_rest.Tie as tie
 
-sub-if1 : tie.Need-sub-if1
-sub-if1 c = let h = headed _ _ _ (c .before .before .pre) in omega arith
-
 returns : tie.Need-returns
 unfolding file-says said
 returns c =
@@ -52,7 +49,7 @@ check-rest-spec =
     tie.close
     (tie.spec
     (λ c κs. search needs)
-    sub-if1
+    (λ c. let h = headed _ _ _ (c .before .before .pre) in omega arith)
     returns
     (λ c κs. search needs)
     returns-2

@@ -6,9 +6,6 @@ use Rattle.rules.specs.Memory.{state-of}
 use Rattle.history.proofs.read.refused.Statement.{statement}
 use Rattle.history.proofs.read.refused.Tie as tie
 
-returns : tie.Need-returns
-unfolding state-of fresh
-returns c = (refl, c .empty .ensures)
-
 pub refused-spec : {M : Type 1} → statement M
-refused-spec = tie.close (tie.spec (λ c κs. search needs) returns)
+unfolding state-of fresh
+refused-spec = tie.close (tie.spec (λ c κs. search needs) (λ c. (refl, c .empty .ensures)))

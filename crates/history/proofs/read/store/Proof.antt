@@ -71,15 +71,6 @@ recent-from h xs e =
     ∙ records-taken confirmed-size (a .m) (drop at s) (simp length-drop (omega (arith, long h)))
     ∙ ap₂ (λ (i j : ℕ). records confirmed-size (a .m) (drop (i + buckets-size + 4 + a .n * j + 4) s)) (h .before .header-len .ensures .0) (h .record-size2 .ensures .0)
 
-mul-len : tie.Need-mul-len
-mul-len c = omega (arith, long c)
-
-add-next : tie.Need-add-next
-add-next c = omega (arith, long c)
-
-add-next-2 : tie.Need-add-next-2
-add-next-2 c = omega (arith, long c)
-
 load-buckets-requires : tie.Need-load-buckets-requires
 load-buckets-requires c κs =
     let h = c .before .before in
@@ -148,9 +139,9 @@ store-spec =
     (λ c. search needs)
     (λ c. search needs)
     (λ c κs. search needs)
-    mul-len
-    add-next
-    add-next-2
+    (λ c. omega (arith, long c))
+    (λ c. omega (arith, long c))
+    (λ c. omega (arith, long c))
     load-buckets-requires
     (λ c κs. search needs)
     load-table-requires

@@ -6,20 +6,13 @@ use Rattle.izrughem.specs.Words.{holds-state}
 use Rattle.izrughem.proofs.state.holds_state.Statement.{statement}
 use Rattle.izrughem.proofs.state.holds_state.Tie as tie
 
-returns : tie.Need-returns
-unfolding holds-state
-returns c = sym (rw (lt-leb 4 _ (c .if1 .taken)))
-
-returns-2 : tie.Need-returns-2
-unfolding holds-state
-returns-2 c = let e = c .before .before .before in c .holds-last .ensures ∙ sym (rw (le-leb 4 _ (e .if1 .left)))
-
 pub holds-state-spec : {M : Type 1} → statement M
+unfolding holds-state
 holds-state-spec =
     tie.close
     (tie.spec
-    returns
+    (λ c. sym (rw (lt-leb 4 _ (c .if1 .taken))))
     (λ c. search needs)
     (λ c. search needs)
     (λ c κs. search needs)
-    returns-2)
+    (λ c. let e = c .before .before .before in c .holds-last .ensures ∙ sym (rw (le-leb 4 _ (e .if1 .left)))))

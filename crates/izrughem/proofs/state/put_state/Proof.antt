@@ -7,12 +7,6 @@ use Rattle.izrughem.proofs.Words.{stored}
 use Rattle.izrughem.proofs.state.put_state.Statement.{statement}
 use Rattle.izrughem.proofs.state.put_state.Tie as tie
 
-slice-write-words-2 : tie.Need-slice-write-words-2
-slice-write-words-2 c = simp length-set (omega arith)
-
-slice-write-words-3 : tie.Need-slice-write-words-3
-slice-write-words-3 c = simp length-set (omega arith)
-
 returns : tie.Need-returns
 returns c =
     let s = c .before .before .before in
@@ -25,8 +19,8 @@ put-state-spec =
     (λ c κs. search needs)
     (λ c. search needs)
     (λ c κs. search needs)
-    slice-write-words-2
-    slice-write-words-3
+    (λ c. simp length-set (omega arith))
+    (λ c. simp length-set (omega arith))
     (λ c. search needs)
     (λ c. search needs)
     returns)

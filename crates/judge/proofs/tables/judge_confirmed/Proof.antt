@@ -4,9 +4,6 @@ use borrow.Author.Needs.{needs}
 use Rattle.judge.proofs.tables.judge_confirmed.Statement.{statement}
 use Rattle.judge.proofs.tables.judge_confirmed.Tie as tie
 
-returns : tie.Need-returns
-unfolding sound-confirmed
-returns c = c .judge-table .ensures
-
 pub judge-confirmed-spec : {M : Type 1} → statement M
-judge-confirmed-spec = tie.close (tie.spec (λ c κs. search needs) returns)
+unfolding sound-confirmed
+judge-confirmed-spec = tie.close (tie.spec (λ c κs. search needs) (λ c. c .judge-table .ensures))

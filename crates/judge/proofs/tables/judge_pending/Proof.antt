@@ -25,9 +25,6 @@ sound-is on size used xs e =
 first : (t : tie.Then1) → let a = t .before .before .before .before .args in sound-table (t .before .before .record-size .result) pending-most (a .used) (now (a .table)) ≡ true
 first t = sym (t .before .judge-table .ensures) ∙ t .if1 .taken
 
-in-range-requires : tie.Need-in-range-requires
-in-range-requires c κs = (c .before .before .record-size .ensures .1, sound-room _ pending-most _ _ (sound-told _ _ _ _ (first c)))
-
 returns : tie.Need-returns
 returns c =
     let t = c .before in
@@ -40,4 +37,11 @@ returns-2 c =
     sym (sound-is (a .on) _ (a .used) (now (a .table)) (c .before .before .record-size .ensures .0) ∙ rw (sym (c .before .judge-table .ensures) ∙ c .if1 .left))
 
 pub judge-pending-spec : {M : Type 1} → statement M
-judge-pending-spec = tie.close (tie.spec (λ c κs. search needs) (λ c κs. search needs) in-range-requires returns returns-2)
+judge-pending-spec =
+    tie.close
+    (tie.spec
+    (λ c κs. search needs)
+    (λ c κs. search needs)
+    (λ c κs. (c .before .before .record-size .ensures .1, sound-room _ pending-most _ _ (sound-told _ _ _ _ (first c))))
+    returns
+    returns-2)

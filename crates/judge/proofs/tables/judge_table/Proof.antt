@@ -26,18 +26,6 @@ returns c =
     let h : capacity (c .before .before .before .args .size) (c .before .before .before .args .most) (now (c .before .before .before .args .table)) < c .before .before .before .args .used = rw (c .before .capacity .ensures) at (c .if1 .taken) in
     sym (rw (lt-leb _ _ h))
 
-ids-rise-requires : tie.Need-ids-rise-requires
-ids-rise-requires c κs = omega (arith, room c)
-
-mul-zero-between : tie.Need-mul-zero-between
-mul-zero-between c = omega (arith, room (c .before .before))
-
-mul-zero-between-2 : tie.Need-mul-zero-between-2
-mul-zero-between-2 c = omega (arith, room (c .before .before))
-
-zero-between-requires : tie.Need-zero-between-requires
-zero-between-requires c κs = omega (arith, room (c .before .before))
-
 returns-2 : tie.Need-returns-2
 unfolding sound-table
 returns-2 c =
@@ -51,4 +39,14 @@ returns-3 c =
     sym (rw (le-leb _ _ (fits-in e), sym (c .before .ids-rise .ensures) ∙ c .if2 .left))
 
 pub judge-table-spec : {M : Type 1} → statement M
-judge-table-spec = tie.close (tie.spec (λ c κs. search needs) returns ids-rise-requires mul-zero-between mul-zero-between-2 zero-between-requires returns-2 returns-3)
+judge-table-spec =
+    tie.close
+    (tie.spec
+    (λ c κs. search needs)
+    returns
+    (λ c κs. omega (arith, room c))
+    (λ c. omega (arith, room (c .before .before)))
+    (λ c. omega (arith, room (c .before .before)))
+    (λ c κs. omega (arith, room (c .before .before)))
+    returns-2
+    returns-3)

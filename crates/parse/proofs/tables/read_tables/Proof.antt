@@ -64,9 +64,6 @@ returns c =
     unreadable-says _ _ (a .s .now) (a .at) (c .unreadable .ensures)
     ∙ sym (no-first _ (z .result) pending-of (z .ensures .0) (told-read (a .version)) (a .s .now) (a .at) (omega arith) (sym (c .before .before .listed .ensures .0) ∙ not-true _ (c .before .if1 .taken)))
 
-mul-part : tie.Need-mul-part
-mul-part c = omega (arith, ends c)
-
 in-range-requires : tie.Need-in-range-requires
 in-range-requires c κs =
     let z = c .before .before .before .record-size in
@@ -81,30 +78,12 @@ returns-2 c =
     unreadable-says _ _ (a .s .now) (a .at) (c .unreadable2 .ensures)
     ∙ sym (out-of-range _ (z .result) pending-of (z .ensures .0) (told-read (a .version)) (a .s .now) (a .at) (first (c .before .before .before .before)) _ (count (c .before .before .before .before)) (sym (ranged (c .before .before)) ∙ not-true _ (c .before .if2 .taken)))
 
-mul-next : tie.Need-mul-next
-mul-next c = omega (arith, ends (c .before .before .before))
-
-add-next-2 : tie.Need-add-next-2
-add-next-2 c = omega (arith, ends (c .before .before .before))
-
-listed-requires-2 : tie.Need-listed-requires-2
-listed-requires-2 c κs = omega (arith, ends (c .before .before .before))
-
 returns-3 : tie.Need-returns-3
 returns-3 c =
     let z = c .before .before .before .before .before .before .before .before .record-size in
     let a = c .before .before .before .before .before .before .before .before .before .before .args in
     unreadable-says _ _ (a .s .now) (a .at) (c .unreadable3 .ensures)
     ∙ sym (no-second _ (z .result) pending-of (z .ensures .0) (told-read (a .version)) (a .s .now) (a .at) (first (c .before .before .before .before .before .before)) _ (count (c .before .before .before .before .before .before)) (sym (ranged (c .before .before .before .before)) ∙ not-false _ (c .before .before .before .if2 .left)) _ refl (ends (c .before .before .before .before .before .before)) (sym (c .before .before .listed2 .ensures .0) ∙ not-true _ (c .before .if3 .taken)))
-
-add-if4 : tie.Need-add-if4
-add-if4 c = omega (arith, ends-2 c)
-
-mul-if4 : tie.Need-mul-if4
-mul-if4 c = omega (arith, ends-2 c)
-
-add-if4-2 : tie.Need-add-if4-2
-add-if4-2 c = omega (arith, ends-2 c)
 
 returns-4 : tie.Need-returns-4
 returns-4 c =
@@ -129,20 +108,20 @@ read-tables-spec =
     (λ c κs. search needs)
     returns
     (λ c. search needs)
-    mul-part
+    (λ c. omega (arith, ends c))
     (λ c κs. search needs)
     in-range-requires
     (λ c κs. search needs)
     returns-2
     (λ c. search needs)
-    mul-next
-    add-next-2
-    listed-requires-2
+    (λ c. omega (arith, ends (c .before .before .before)))
+    (λ c. omega (arith, ends (c .before .before .before)))
+    (λ c κs. omega (arith, ends (c .before .before .before)))
     (λ c κs. search needs)
     returns-3
-    add-if4
-    mul-if4
-    add-if4-2
+    (λ c. omega (arith, ends-2 c))
+    (λ c. omega (arith, ends-2 c))
+    (λ c. omega (arith, ends-2 c))
     (λ c κs. search needs)
     returns-4
     returns-5)

@@ -9,13 +9,12 @@ use Rattle.format.specs.File.{version-told}
 use Rattle.parse.proofs.version.after_len.Statement.{statement}
 use Rattle.parse.proofs.version.after_len.Tie as tie
 
-returns : tie.Need-returns
-unfolding bytes
-returns c = (sym (ap (λ (v : FileVersion). length (version-told v .after)) (c .enum-told .given .1)), omega arith)
-
-returns-2 : tie.Need-returns-2
-unfolding bytes
-returns-2 c = (sym (ap (λ (v : FileVersion). length (version-told v .after)) (c .enum-told2 .given .1)), omega arith)
-
 pub after-len-spec : {M : Type 1} → statement M
-after-len-spec = tie.close (tie.spec (λ c. search needs) (λ c. search needs) returns returns-2)
+unfolding bytes
+after-len-spec =
+    tie.close
+    (tie.spec
+    (λ c. search needs)
+    (λ c. search needs)
+    (λ c. (sym (ap (λ (v : FileVersion). length (version-told v .after)) (c .enum-told .given .1)), omega arith))
+    (λ c. (sym (ap (λ (v : FileVersion). length (version-told v .after)) (c .enum-told2 .given .1)), omega arith)))

@@ -6,11 +6,11 @@ use Rattle.format.specs.File.{version-told}
 use Rattle.parse.proofs.version.number_of.Statement.{statement}
 use Rattle.parse.proofs.version.number_of.Tie as tie
 
-returns : tie.Need-returns
-returns c = sym (ap (λ (v : FileVersion). version-told v .number) (c .enum-told .given .1))
-
-returns-2 : tie.Need-returns-2
-returns-2 c = sym (ap (λ (v : FileVersion). version-told v .number) (c .enum-told2 .given .1))
-
 pub number-of-spec : {M : Type 1} → statement M
-number-of-spec = tie.close (tie.spec (λ c. search needs) (λ c. search needs) returns returns-2)
+number-of-spec =
+    tie.close
+    (tie.spec
+    (λ c. search needs)
+    (λ c. search needs)
+    (λ c. sym (ap (λ (v : FileVersion). version-told v .number) (c .enum-told .given .1)))
+    (λ c. sym (ap (λ (v : FileVersion). version-told v .number) (c .enum-told2 .given .1))))
