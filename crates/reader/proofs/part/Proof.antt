@@ -44,7 +44,6 @@ use Rattle.reader.proofs.new as new
 use Rattle.reader.proofs.new.Symbol as new-def
 use Rattle.reader.proofs.new.Symbol.{name as #reader·new}
 use Rattle.reader.proofs.new.Met as new-thm
-use Rattle.reader.proofs.Reader.take as take
 use Rattle.reader.proofs.Reader.take.Symbol as take-def
 use Rattle.reader.proofs.Reader.take.Symbol.{name as #reader·take}
 use Rattle.reader.proofs.Reader.take.Met as take-thm
