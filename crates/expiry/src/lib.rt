@@ -31,7 +31,12 @@ fn expire_one(resolved: &mut [f64], pending: &[u8], used: usize, i: usize, h: He
     let r = table::pending_at(pending, size, used, i);
     let e = r.entry;
     let reach = boards::outwaited(h, e, width);
-    counts::count_expiry(resolved, r.bucket as usize, r.through, reach);
+    counts::gain_columns(
+        resolved,
+        r.bucket as usize,
+        r.through as usize,
+        reach as usize,
+    );
 }
 
 // Counts the expiry of every pending record.
@@ -63,8 +68,7 @@ pub fn expire_pending(
     ensures { λ _. ⌜ now (pending .exit) ≡ laid (board-of on .table .size) used (keep waiting (map (raised (board-of on .width) (h .0)) (records (board-of on .table .size) used (now (pending .entry))))) (now (pending .entry)) ⌝ }
 {
     let size = boards::record_size(on);
-    let width = boards::width_of(on);
     expire_targets(resolved, pending, used, h, on);
-    raise::raise_through(pending, size, used, h, width);
+    raise::raise_through(pending, size, used, h, on);
     keep::drop_resolved(pending, size, used)
 }

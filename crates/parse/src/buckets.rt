@@ -13,7 +13,7 @@ ghost use Rattle.rules.specs.Ladder.{buckets};
 ghost use Rattle.rules.specs.Counts.{places-of-counts};
 ghost use Rattle.format.specs.Parts.{is-read};
 ghost use Rattle.format.specs.File.{rates, read-buckets};
-ghost use Rattle.codec.specs.Places.{buckets-size, rows-at};
+ghost use Rattle.codec.specs.Places.{confirmed-row, resolved-row, buckets-size, rows-at};
 
 // Whether all buckets stand from `at` on.
 pub(crate) fn buckets_ok(s: &[u8], at: usize) -> bool
@@ -37,8 +37,8 @@ pub fn load_buckets(s: &[u8], at: usize, confirmed: &mut [f64], resolved: &mut [
     requires { ⌜ (at + buckets-size ≤ length (now s)) × ((places-of-counts ≤ length (now confirmed)) × (places-of-counts ≤ length (now resolved))) ⌝ }
     requires { ⌜ is-read (read-buckets rates (drop at (now s))) ≡ true ⌝ }
     ensures { λ _. ⌜
-        (now (confirmed .exit) ≡ rows-at buckets (now (s .entry)) (at + 8) ++ drop places-of-counts (now (confirmed .entry)))
-        × (now (resolved .exit) ≡ rows-at buckets (now (s .entry)) (at + 208) ++ drop places-of-counts (now (resolved .entry))) ⌝ }
+        (now (confirmed .exit) ≡ rows-at buckets (now (s .entry)) (at + confirmed-row) ++ drop places-of-counts (now (confirmed .entry)))
+        × (now (resolved .exit) ≡ rows-at buckets (now (s .entry)) (at + resolved-row) ++ drop places-of-counts (now (resolved .entry))) ⌝ }
 {
     let mut i = 0;
     while i < BUCKET_COUNT {

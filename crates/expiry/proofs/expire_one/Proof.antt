@@ -28,19 +28,19 @@ pending-at-requires c κs =
     let z = c .before .record-size .ensures in
     (z .1, (s .pre .0 .1, subst (λ (n : ℕ). s .args .used * n ≤ length (now (s .args .pending))) (sym (z .0)) (s .pre .0 .2)))
 
-count-expiry-requires : tie.Need-count-expiry-requires
-count-expiry-requires c κs =
-    let n = c .before .before .before .before in
+gain-columns-requires : tie.Need-gain-columns-requires
+gain-columns-requires c κs =
+    let n = c .before .before .before .before .before in
     let b = n .pending-at .ensures .0 ∙ ap (λ (r : Pending). r .bucket) (read-is-that n) in
-    omega (arith, b, c .before .before .outwaited .ensures)
+    omega (arith, b, c .before .before .before .outwaited .ensures)
 
 returns : tie.Need-returns
 returns c =
-    let counted = c .before .before .count-expiry in
-    let reached = c .before .before .before .before .before .outwaited in
-    let n = c .before .before .before .before .before .before .before in
+    let counted = c .before .before .gain-columns in
+    let reached = c .before .before .before .before .before .before .outwaited in
+    let n = c .before .before .before .before .before .before .before .before in
     let r = n .pending-at in
-    let w = c .before .before .before .before .before .before .before .before .width-of .ensures .0 in
+    let w = c .before .before .before .before .before .before .before .before .before .width-of .ensures .0 in
     let a = start n .args in
     let e = read-is-that n in
     let q = board-of (a .on) .table .read (getD (records (board-of (a .on) .table .size) (a .used) (now (a .pending))) (a .i) []) in
@@ -51,4 +51,4 @@ returns c =
 
 pub expire-one-spec : {M : Type 1} → statement M
 expire-one-spec =
-    tie.close (tie.spec (λ c κs. search needs) (λ c κs. search needs) pending-at-requires (λ c κs. search needs) (λ c. search needs) count-expiry-requires (λ c. search needs) returns)
+    tie.close (tie.spec (λ c κs. search needs) (λ c κs. search needs) pending-at-requires (λ c κs. search needs) (λ c. search needs) (λ c. search needs) (λ c. search needs) gain-columns-requires (λ c. search needs) returns)

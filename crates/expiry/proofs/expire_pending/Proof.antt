@@ -1,11 +1,12 @@
 -- `expiry::expire_pending` meets its contract: what is raised and then dropped is one pass over the records as they were. Assumes nothing.
-use mathlib.Core.Path.{sym, ap₂, subst, _∙_}
+use mathlib.Core.Path.{sym, ap, subst, _∙_}
 use mathlib.Core.List.{List, map}
 use Prim.Native.Nat.{ℕ, _*_, _≤_}
 use native.Mathlib.Omega.{arith}
 use lib.ListN.{length}
 use Rattle.rules.specs.Lists.{keep}
 use Rattle.rules.specs.Records.{records, laid}
+use Rattle.rules.specs.Board.{board-of}
 use borrow.Author.Needs.{needs}
 use denote.Ref.{now}
 use Rattle.expiry.specs.Fields.{raised, waiting}
@@ -19,29 +20,28 @@ room : (n : tie.After-record-size) → let a = n .before .before .before .args i
 room n = let s = n .before .before .before in subst (λ (m : ℕ). s .args .used * m ≤ length (now (s .args .pending))) (sym (n .record-size .ensures .0)) (s .pre .0 .1)
 
 raise-through-requires : tie.Need-raise-through-requires
-raise-through-requires c κs = omega (arith, c .before .before .before .before .before .before .width-of .ensures .1, c .before .before .before .before .before .before .before .record-size .ensures .1, room (c .before .before .before .before .before .before .before))
+raise-through-requires c κs = omega (arith, c .before .before .before .before .before .before .record-size .ensures .1, room (c .before .before .before .before .before .before))
 
 drop-resolved-requires : tie.Need-drop-resolved-requires
-drop-resolved-requires c κs = (c .before .before .before .before .before .before .before .before .before .before .before .record-size .ensures .1, omega (arith, room (c .before .before .before .before .before .before .before .before .before .before .before), c .before .before .before .raise-through .kept))
+drop-resolved-requires c κs = (c .before .before .before .before .before .before .before .before .before .before .record-size .ensures .1, omega (arith, room (c .before .before .before .before .before .before .before .before .before .before), c .before .before .before .raise-through .kept))
 
 returns : tie.Need-returns
 returns c =
     let dropped = c .before .before .drop-resolved in
     let lifted = c .before .before .before .before .before .before .raise-through in
     let expired = c .before .before .before .before .before .before .before .before .before .before .expire-targets in
-    let width = c .before .before .before .before .before .before .before .before .before .before .before .before .before .width-of in
-    let size = c .before .before .before .before .before .before .before .before .before .before .before .before .before .before .record-size in
-    let a = c .before .before .before .before .before .before .before .before .before .before .before .before .before .before .before .before .before .args in
-    let q = changed-kept (raised (width .result .0) (a .h .0)) waiting (size .result) (a .used) (now (a .pending)) (lifted .last .0) (dropped .last .0) (dropped .result)
-    (length-raised (size .result) (width .result .0) (a .h .0)) (room (c .before .before .before .before .before .before .before .before .before .before .before .before .before .before)) (lifted .ensures) (dropped .ensures .0) (dropped .ensures .1) in
-    let kept : ℕ → ℕ → List (List ℕ) = λ m w. keep waiting (map (raised w (a .h .0)) (records m (a .used) (now (a .pending)))) in (
+    let size = c .before .before .before .before .before .before .before .before .before .before .before .before .before .record-size in
+    let a = c .before .before .before .before .before .before .before .before .before .before .before .before .before .before .before .before .args in
+    let q = changed-kept (raised (board-of (a .on) .width) (a .h .0)) waiting (size .result) (a .used) (now (a .pending)) (lifted .last .0) (dropped .last .0) (dropped .result)
+    (length-raised (size .result) (board-of (a .on) .width) (a .h .0)) (room (c .before .before .before .before .before .before .before .before .before .before .before .before .before)) (lifted .ensures) (dropped .ensures .0) (dropped .ensures .1) in
+    let kept : ℕ → List (List ℕ) = λ m. keep waiting (map (raised (board-of (a .on) .width) (a .h .0)) (records m (a .used) (now (a .pending)))) in (
       expired .ensures,
       (
-        q .0 ∙ ap₂ (λ (m w : ℕ). length (kept m w)) (size .ensures .0) (width .ensures .0),
-        q .1 ∙ ap₂ (λ (m w : ℕ). laid m (a .used) (kept m w) (now (a .pending))) (size .ensures .0) (width .ensures .0),
+        q .0 ∙ ap (λ (m : ℕ). length (kept m)) (size .ensures .0),
+        q .1 ∙ ap (λ (m : ℕ). laid m (a .used) (kept m) (now (a .pending))) (size .ensures .0),
       ),
     )
 
 pub expire-pending-spec : {M : Type 1} → statement M
 expire-pending-spec =
-    tie.close (tie.spec (λ c κs. search needs) (λ c κs. search needs) (λ c κs. search needs) raise-through-requires drop-resolved-requires (λ c. search needs) (λ c. search needs) returns)
+    tie.close (tie.spec (λ c κs. search needs) (λ c κs. search needs) raise-through-requires drop-resolved-requires (λ c. search needs) (λ c. search needs) returns)
