@@ -1,0 +1,8 @@
+-- Laws of it.
+
+-- words compared, and the rows of the page
+pub mod Naming
+-- the ids of a block
+pub mod Listed
+-- a line, word by word
+pub mod Taking

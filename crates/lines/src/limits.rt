@@ -1,0 +1,17 @@
+// The bounds of the scripts' page.
+
+// The most bytes of a script.
+pub const MOST_SCRIPT: usize = 2097152;
+
+// The most bytes that are lent for pending and for confirmed records, and the most counts of each kind.
+pub const MOST_PENDING: usize = 440100;
+
+pub const MOST_RECENT: usize = 720100;
+
+pub const MOST_COUNTS: usize = 3600;
+
+// The most bytes that a history is written into.
+pub const MOST_HISTORY: usize = 1400000;
+
+// The most ids of a block, but for a list given as bytes.
+pub const MOST_IDS: usize = 4096;
