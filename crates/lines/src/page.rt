@@ -8,7 +8,7 @@ use kinds::ID_SIZE;
 ghost use mathlib.Core.Path.{_≡_};
 ghost use mathlib.Core.Bool.{cond};
 ghost use Rattle.rules.specs.Ids.{same};
-ghost use Rattle.lines.specs.Page.{found, calls, questions, operation-of, allowed, four, fields-of};
+ghost use Rattle.lines.specs.Page.{found, calls, questions, operation-of, allowed, four, one, fields-of};
 
 // An operation, by its first word.
 pub enum Operation {
@@ -134,6 +134,13 @@ fn row(a: Field, b: Field, c: Field, d: Field) -> Fields
     Fields { a, b, c, d }
 }
 
+// One field, or none.
+fn only(a: Field) -> Fields
+    ensures { λ r. ⌜ r ≡ one a ⌝ }
+{
+    row(a, Field::Nothing, Field::Nothing, Field::Nothing)
+}
+
 // The fields of each operation.
 pub(crate) fn fields_of(of: Operation) -> Fields
     ensures { λ r. ⌜ r ≡ fields-of of ⌝ }
@@ -153,18 +160,18 @@ pub(crate) fn fields_of(of: Operation) -> Fields
         Operation::Count => row(Field::Kind, counts, Field::Pattern, none),
         Operation::State => row(Field::Last, short, short, none),
         Operation::Enter => row(id, long, short, none),
-        Operation::Leave => row(id, none, none, none),
+        Operation::Leave => only(id),
         Operation::Block => row(short, Field::Ids, none, none),
         Operation::BlockRaw => row(short, Field::Any, none, none),
-        Operation::Estimate => row(short, none, none, none),
-        Operation::Bucket => row(long, none, none, none),
-        Operation::Write => row(history, none, none, none),
-        Operation::Read => row(Field::Any, none, none, none),
-        Operation::Start => row(none, none, none, none),
-        Operation::Estimates => row(none, none, none, none),
-        Operation::Again => row(none, none, none, none),
-        Operation::Sum => row(none, none, none, none),
-        Operation::Unfit => row(none, none, none, none),
-        Operation::PassedOver => row(none, none, none, none),
+        Operation::Estimate => only(short),
+        Operation::Bucket => only(long),
+        Operation::Write => only(history),
+        Operation::Read => only(Field::Any),
+        Operation::Start => only(none),
+        Operation::Estimates => only(none),
+        Operation::Again => only(none),
+        Operation::Sum => only(none),
+        Operation::Unfit => only(none),
+        Operation::PassedOver => only(none),
     }
 }
