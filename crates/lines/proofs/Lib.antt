@@ -6,3 +6,5 @@ pub mod Naming
 pub mod Listed
 -- a line, word by word
 pub mod Taking
+-- lines and what they ask for, computed
+pub mod Examples
