@@ -28,10 +28,11 @@ pub record Example : Type 0 where
   pub line : String
   pub asks : Line
 
--- after a `lend`, and before
+-- a line after a `lend`
 abbrev after-lend : String → Line → Example
 after-lend line asks = record { begun = true; line = line; asks = asks }
 
+-- a line before the first one
 abbrev before-lend : String → Line → Example
 before-lend line asks = record { begun = false; line = line; asks = asks }
 
@@ -39,9 +40,11 @@ before-lend line asks = record { begun = false; line = line; asks = asks }
 abbrev asks : Operation → ℕ → ℕ → ℕ → ℕ → Line
 asks of a b c d = record { operation = of; a = a; b = b; c = c; d = d }
 
+-- no line of the page
 abbrev unfit : Line
 unfit = bare Operation.Unfit
 
+-- a line that asks for nothing
 abbrev passed : Line
 passed = bare Operation.PassedOver
 
@@ -139,13 +142,15 @@ lists =
     ∷ after-lend "read 0" unfit
     ∷ []
 
--- what the definition gives for each, and what it is to give
+-- what the definition gives for each
 abbrev given : List Example → List Line
 given es = map (λ e. line-of (e .begun) (codes (e .line))) es
 
+-- what it is to give
 abbrev expected : List Example → List Line
 expected es = map (λ e. e .asks) es
 
+-- all of them hold
 pub all-hold : (given lends ≡ expected lends) × (given bares ≡ expected bares) × (given numbers ≡ expected numbers) × (given damages ≡ expected damages) × (given lists ≡ expected lists)
 unfolding indexOf same every word-from digit value-after number-after number-of is-hex is-id pattern-of found operation-of allowed last-of bits-of one-of any-of ids-from take-word take-ids take-field with-fields passed-over line-of codes lends bares numbers damages lists
 all-hold = (refl, refl, refl, refl, refl)

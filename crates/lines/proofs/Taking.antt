@@ -1,7 +1,7 @@
 -- What is taken from a line, word by word.
 -- Assumes nothing.
 use mathlib.Core.Path.{_≡_, refl, sym, ap, _∙_}
-use mathlib.Core.Bool.{Bool, true, false, _&&_, cond}
+use mathlib.Core.Bool.{Bool, true, _&&_, cond}
 use mathlib.Core.List.{List, [], _∷_}
 use Prim.Native.Nat.{ℕ, _+_}
 use native.Mathlib.Nat.{suc-ne-zero}
@@ -18,7 +18,6 @@ use Rattle.lines.specs.Lines.{value-of, text-of, behind, take-word, take
 use Rattle.lines.specs.declared.page.Operation.{Operation}
 use Rattle.lines.specs.declared.page.Field.{Field}
 use Rattle.lines.specs.declared.page.Fields.{Fields}
-use Rattle.lines.specs.declared.lines.Line.{Line}
 use Rattle.lines.specs.declared.lines.Taken.{Taken}
 use Rattle.lines.proofs.page.Field as field
 
@@ -42,6 +41,7 @@ module _ (line : List ℕ) (t : Taken) where
   worded Field.Any h = refl
   worded Field.Ids h = absurd (miss words 8 tt h)
 
+  -- what a word says is what is taken for its field
   pub by-word : (f : Field) (w : Word) (n : Number) → OneOf words (tagOf field.the-type f) → w ≡ word-from line (t .at) → n ≡ value-of f (w .from) (text-of line w)
       → behind t (w .to) n ≡ take-field line t f
   unfolding take-word
@@ -58,25 +58,30 @@ taken line of at f a b c d ef ea eb ec ed = rw (← ef, ← ea, ← eb, ← ec, 
 
 -- ---- the whole line
 
+-- a line without bytes is passed over
 nothing : (l : List ℕ) → length l ≡ 0 → passed-over l ≡ true
 unfolding passed-over
 nothing [] e = refl
 nothing (x ∷ l) e = absurd (suc-ne-zero _ e)
 
+-- any other by its first byte
 something : (l : List ℕ) → (length l ≡ 0 → ⊥) → passed-over l ≡ eqb (getD l 0 0) 35
 unfolding passed-over
 something [] h = absurd (h refl)
 something (x ∷ l) h = refl
 
 module _ (begun : Bool) (line : List ℕ) where
+  -- an empty line
   pub empty : length line ≡ 0 → bare Operation.PassedOver ≡ line-of begun line
   unfolding line-of
   empty h = rw (nothing line h)
 
+  -- a line that begins with `#`
   pub comment : (length line ≡ 0 → ⊥) → getD line 0 0 ≡ 35 → bare Operation.PassedOver ≡ line-of begun line
   unfolding line-of
   comment h e = rw (something line h ∙ eq-eqb _ _ e)
 
+  -- any other line
   pub operation : (length line ≡ 0 → ⊥) → (getD line 0 0 ≡ 35 → ⊥) → (w : Word) (of : Operation) → w ≡ word-from line 0 → of ≡ allowed begun (text-of line w)
       → with-fields line of (w .to + 1) ≡ line-of begun line
   unfolding line-of

@@ -59,13 +59,15 @@ allowed begun w = cond begun (operation-of w) (cond (same w lend) Operation.Lend
 
 -- ---- the bounds
 
--- the most bytes of pending records, and of confirmed ones, and the most doubles of each kind
+-- the most bytes for pending records
 abbrev pub most-pending : ℕ
 most-pending = 440100
 
+-- the most bytes for confirmed records
 abbrev pub most-recent : ℕ
 most-recent = 720100
 
+-- the most doubles of each kind
 abbrev pub most-counts : ℕ
 most-counts = 3600
 
@@ -79,17 +81,19 @@ most-ids = 4096
 
 -- ---- the fields
 
--- a number of 32 bits, and one of 64
+-- a number of 32 bits: heights, targets, used numbers
 abbrev pub short : Field
 short = Field.Number 4294967295
 
+-- a number of 64 bits: rates
 abbrev pub long : Field
 long = Field.Number 18446744073709551615
 
--- bytes in digits: an id's, and others
+-- an id's bytes
 abbrev pub id : Field
 id = Field.Bytes 32
 
+-- bytes of a table
 abbrev pub some : Field
 some = Field.Bytes most-history
 

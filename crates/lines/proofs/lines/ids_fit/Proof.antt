@@ -30,16 +30,25 @@ loop-holds : tie.Need-loop-holds Inv-loop μ-loop
 loop-holds c = refl
 
 returns : tie.Need-returns Inv-loop μ-loop
-returns c = let l = c .before .before .loop in let s = now (c .before .before .before .before .args .line) in sym (l .inv ∙ ap (λ (n : ℕ). ids-from n s (l .from)) (c .if1 .taken) ∙ full s (l .from) (c .before .loop-test .taken))
+returns c =
+    let l = c .before .before .loop in
+    let s = now (c .before .before .before .before .args .line) in
+    sym (l .inv ∙ ap (λ (n : ℕ). ids-from n s (l .from)) (c .if1 .taken) ∙ full s (l .from) (c .before .loop-test .taken))
 
 returns-2 : tie.Need-returns-2 Inv-loop μ-loop
-returns-2 c = let w = c .before .before .before .word-at in sym (c .before .before .before .before .before .before .loop .inv ∙ no-id _ _ _ (w .result) (w .ensures .0) (c .before .before .before .before .before .loop-test .taken) (sym (c .before .holds .ensures) ∙ not-true _ (c .if2 .taken)))
+returns-2 c =
+    let w = c .before .before .before .word-at in
+    let l = c .before .before .before .before .before .before .loop in
+    sym (l .inv ∙ no-id _ _ _ (w .result) (w .ensures .0) (c .before .before .before .before .before .loop-test .taken) (sym (c .before .holds .ensures) ∙ not-true _ (c .if2 .taken)))
 
 loop-less : tie.Need-loop-less Inv-loop μ-loop
 loop-less c = let n = onward c in omega arith
 
 loop-again : tie.Need-loop-again Inv-loop μ-loop
-loop-again c = let w = c .before .before .before .word-at in c .before .before .before .before .before .before .loop .inv ∙ next-id _ _ _ (w .result) (w .ensures .0) (c .before .before .before .before .before .loop-test .taken) (omega arith) (sym (c .before .holds .ensures) ∙ not-false _ (c .if2 .left))
+loop-again c =
+    let w = c .before .before .before .word-at in
+    let l = c .before .before .before .before .before .before .loop in
+    l .inv ∙ next-id _ _ _ (w .result) (w .ensures .0) (c .before .before .before .before .before .loop-test .taken) (omega arith) (sym (c .before .holds .ensures) ∙ not-false _ (c .if2 .left))
 
 returns-3 : tie.Need-returns-3 Inv-loop μ-loop
 returns-3 c = let l = c .before .loop in sym (l .inv ∙ ended _ _ _ (c .loop-test .left))

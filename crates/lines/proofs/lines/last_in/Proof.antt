@@ -1,14 +1,13 @@
 -- `lines::lines::last_in` meets its contract.
 -- Assumes nothing.
-use mathlib.Core.Path.{_≡_, sym, ap, _∙_}
-use Prim.Native.Nat.{_≤_}
+use mathlib.Core.Path.{_≡_, sym, _∙_}
 use native.Mathlib.Omega.{arith}
 use borrow.Author.Needs.{needs}
 use denote.Ref.{now}
 use Rattle.script.specs.Digits.{number-of}
 use Rattle.script.specs.declared.numbers.Number.{Number}
 use Rattle.script.proofs.Reading.{at-most}
-use Rattle.lines.specs.Lines.{next, last-of}
+use Rattle.lines.specs.Lines.{last-of}
 use Rattle.lines.proofs.lines.last_in.Statement.{statement}
 use Rattle.lines.proofs.lines.last_in.Tie as tie
 
@@ -21,7 +20,7 @@ unfolding last-of
 returns c = rw (sym (c .before .is .ensures) ∙ c .if1 .taken)
 
 add-t10 : tie.Need-add-t10
-add-t10 c = let h = number c in let b : c .before .n .given .0 .0 ≤ 4294967295 = at-most 10 4294967295 _ _ h in omega arith
+add-t10 c = let b = at-most 10 4294967295 _ _ (number c) in omega arith
 
 returns-2 : tie.Need-returns-2
 unfolding last-of

@@ -5,7 +5,6 @@ use mathlib.Core.Bool.{Bool}
 use borrow.Author.Needs.{needs}
 use denote.Ref.{now}
 use lib.ListN.{length}
-use Rattle.script.specs.declared.numbers.Number.{Number}
 use Rattle.lines.specs.Lines.{placed, behind, take-ids, take-field}
 use Rattle.lines.proofs.Taking.{by-word}
 use Rattle.lines.proofs.lines.take.Statement.{statement}

@@ -13,7 +13,12 @@ returns : tie.Need-returns
 returns c =
     let w = now (c .before .before .before .before .before .before .before .before .before .before .before .before .args .word) in
     let o = found questions w Operation.Unfit in
-    more w o _ _ (c .named5 .ensures) (more w o _ _ (c .before .before .named4 .ensures) (more w o _ _ (c .before .before .before .before .named3 .ensures) (more w o _ _ (c .before .before .before .before .before .before .named2 .ensures) (more w o _ _ (c .before .before .before .before .before .before .before .before .named .ensures) (c .before .before .before .before .before .before .before .before .before .before .question .ensures ∙ none w o)))))
+    more w o _ _ (c .named5 .ensures)
+    (more w o _ _ (c .before .before .named4 .ensures)
+    (more w o _ _ (c .before .before .before .before .named3 .ensures)
+    (more w o _ _ (c .before .before .before .before .before .before .named2 .ensures)
+    (more w o _ _ (c .before .before .before .before .before .before .before .before .named .ensures)
+    (c .before .before .before .before .before .before .before .before .before .before .question .ensures ∙ none w o)))))
 
 pub call-spec : {M : Type 1} → statement M
 call-spec =

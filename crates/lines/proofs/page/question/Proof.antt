@@ -11,7 +11,13 @@ returns : tie.Need-returns
 returns c =
     let w = now (c .before .before .before .before .before .before .before .before .before .before .before .before .before .args .word) in
     let o = Operation.Unfit in
-    more w o _ _ (c .named6 .ensures) (more w o _ _ (c .before .before .named5 .ensures) (more w o _ _ (c .before .before .before .before .named4 .ensures) (more w o _ _ (c .before .before .before .before .before .before .named3 .ensures) (more w o _ _ (c .before .before .before .before .before .before .before .before .named2 .ensures) (more w o _ _ (c .before .before .before .before .before .before .before .before .before .before .named .ensures) (none w o))))))
+    more w o _ _ (c .named6 .ensures)
+    (more w o _ _ (c .before .before .named5 .ensures)
+    (more w o _ _ (c .before .before .before .before .named4 .ensures)
+    (more w o _ _ (c .before .before .before .before .before .before .named3 .ensures)
+    (more w o _ _ (c .before .before .before .before .before .before .before .before .named2 .ensures)
+    (more w o _ _ (c .before .before .before .before .before .before .before .before .before .before .named .ensures)
+    (none w o))))))
 
 pub question-spec : {M : Type 1} → statement M
 question-spec =
