@@ -154,3 +154,8 @@ expected es = map (λ e. e .asks) es
 pub all-hold : (given lends ≡ expected lends) × (given bares ≡ expected bares) × (given numbers ≡ expected numbers) × (given damages ≡ expected damages) × (given lists ≡ expected lists)
 unfolding indexOf same every word-from digit value-after number-after number-of is-hex is-id pattern-of found operation-of allowed last-of bits-of one-of any-of ids-from take-word take-ids take-field with-fields passed-over line-of codes lends bares numbers damages lists
 all-hold = (refl, refl, refl, refl, refl)
+
+-- so many ids and no more
+pub ids-counted : (ids-from 0 (codes "aa") 3 ≡ true) × (ids-from 1 (codes "aa") 0 ≡ true) × (ids-from 1 (codes "aa bb") 0 ≡ false) × (ids-from 2 (codes "aa bb") 0 ≡ true)
+unfolding indexOf every word-from digit is-hex is-id ids-from codes
+ids-counted = (refl, refl, refl, refl)

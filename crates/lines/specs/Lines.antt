@@ -11,7 +11,7 @@ use Rattle.script.specs.Hex.{some-bytes, is-id, pattern-of}
 use Rattle.script.specs.declared.numbers.Number.{Number}
 use Rattle.script.specs.declared.words.Word.{Word}
 use Rattle.lines.specs.Words.{Text, pending, confirmed, resolved, nan, dash}
-use Rattle.lines.specs.Page.{allowed, fields-of, most-history, most-ids}
+use Rattle.lines.specs.Page.{allowed, fields-of, most-history, most-short, most-ids}
 use Rattle.lines.specs.declared.page.Operation.{Operation}
 use Rattle.lines.specs.declared.page.Field.{Field}
 use Rattle.lines.specs.declared.lines.Line.{Line}
@@ -26,7 +26,7 @@ next Number.Bad = Number.Bad
 
 -- a last height plus 1, or 0 for `-`
 unfoldable pub last-of : Text → Number
-last-of w = cond (same w dash) (Number.Is 0) (next (number-of 10 4294967295 w))
+last-of w = cond (same w dash) (Number.Is 0) (next (number-of 10 most-short w))
 
 -- the bits of a double, 7ff8000000000000 for `nan`
 unfoldable pub bits-of : Text → Number

@@ -75,6 +75,10 @@ most-counts = 3600
 abbrev pub most-history : ℕ
 most-history = 1400000
 
+-- the highest number of 32 bits
+abbrev pub most-short : ℕ
+most-short = 4294967295
+
 -- the most ids of a block
 abbrev pub most-ids : ℕ
 most-ids = 4096
@@ -83,7 +87,7 @@ most-ids = 4096
 
 -- a number of 32 bits: heights, targets, used numbers
 abbrev pub short : Field
-short = Field.Number 4294967295
+short = Field.Number most-short
 
 -- a number of 64 bits: rates
 abbrev pub long : Field

@@ -19,7 +19,8 @@ ghost use Rattle.script.specs.Hex.{some-bytes};
 ghost use Rattle.lines.specs.Page.{most-ids};
 ghost use Rattle.lines.specs.Lines.{last-of, bits-of, one-of, any-of, placed, value-of, ids-from, behind, take-field, bare, with-fields, line-of};
 
-// A line: its operation, and the values of its fields in their order. The value of bytes in digits, and of ids, is where they begin.
+// A line: its operation, and the values of its fields in their order. The value of bytes in digits, and of ids, is where they begin; of a last height
+// one more than it, and 0 for `-`; of one of two words 0 or 1, in the order of the page.
 pub struct Line {
     pub operation: Operation,
     pub a: u64,

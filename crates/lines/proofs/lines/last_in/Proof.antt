@@ -7,12 +7,13 @@ use denote.Ref.{now}
 use Rattle.script.specs.Digits.{number-of}
 use Rattle.script.specs.declared.numbers.Number.{Number}
 use Rattle.script.proofs.Reading.{at-most}
+use Rattle.lines.specs.Page.{most-short}
 use Rattle.lines.specs.Lines.{last-of}
 use Rattle.lines.proofs.lines.last_in.Statement.{statement}
 use Rattle.lines.proofs.lines.last_in.Tie as tie
 
 -- what the word says as a number
-number : (c : tie.After-known-told) → number-of 10 4294967295 (now (c .before .before .before .before .before .before .before .before .args .word)) ≡ Number.Is (c .before .n .given .0 .0)
+number : (c : tie.After-known-told) → number-of 10 most-short (now (c .before .before .before .before .before .before .before .before .args .word)) ≡ Number.Is (c .before .n .given .0 .0)
 number c = sym (c .before .before .before .number-in .ensures) ∙ c .before .n .given .1
 
 returns : tie.Need-returns
@@ -20,7 +21,7 @@ unfolding last-of
 returns c = rw (sym (c .before .is .ensures) ∙ c .if1 .taken)
 
 add-t10 : tie.Need-add-t10
-add-t10 c = let b = at-most 10 4294967295 _ _ (number c) in omega arith
+add-t10 c = let b = at-most 10 most-short _ _ (number c) in omega arith
 
 returns-2 : tie.Need-returns-2
 unfolding last-of
