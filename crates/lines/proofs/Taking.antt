@@ -51,7 +51,7 @@ module _ (line : List ℕ) (t : Taken) where
 
 -- with-fields, once its four fields are taken
 pub taken : (line : List ℕ) (of : Operation) (at : ℕ) (f : Fields) (a b c d : Taken) → f ≡ fields-of of
-    → a ≡ take-field line (before-fields at) (f .a) → b ≡ take-field line a (f .b) → c ≡ take-field line b (f .c) → d ≡ take-field line c (f .d)
+    → a ≡ take-field line (before-fields at) (f .0) → b ≡ take-field line a (f .1) → c ≡ take-field line b (f .2) → d ≡ take-field line c (f .3)
     → with-fields line of at ≡ cond (ltb (length line) (d .at) && d .fits) (record { operation = of; a = a .value; b = b .value; c = c .value; d = d .value }) (bare Operation.Unfit)
 unfolding with-fields
 taken line of at f a b c d ef ea eb ec ed = rw (← ef, ← ea, ← eb, ← ec, ← ed)

@@ -110,10 +110,10 @@ bare of = record { operation = of; a = 0; b = 0; c = 0; d = 0 }
 unfoldable pub with-fields : List ℕ → Operation → ℕ → Line
 with-fields line of at =
     let f = fields-of of in
-    let a = take-field line (before-fields at) (f .a) in
-    let b = take-field line a (f .b) in
-    let c = take-field line b (f .c) in
-    let d = take-field line c (f .d) in
+    let a = take-field line (before-fields at) (f .0) in
+    let b = take-field line a (f .1) in
+    let c = take-field line b (f .2) in
+    let d = take-field line c (f .3) in
     cond (ltb (length line) (d .at) && d .fits) (record { operation = of; a = a .value; b = b .value; c = c .value; d = d .value }) (bare Operation.Unfit)
 
 -- an empty line, or one that begins with `#`

@@ -103,7 +103,7 @@ some = Field.Bytes most-history
 
 -- four fields
 abbrev pub four : Field → Field → Field → Field → Fields
-four a b c d = record { a = a; b = b; c = c; d = d }
+four a b c d = record { 0 = a; 1 = b; 2 = c; 3 = d }
 
 -- one field, or none
 abbrev pub one : Field → Fields

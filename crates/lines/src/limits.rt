@@ -15,5 +15,8 @@ pub const MOST_COUNTS: usize = 3600;
 // The most bytes that a history is written into, and that a word says in digits.
 pub const MOST_HISTORY: usize = 1400000;
 
+// The highest number of 32 bits.
+pub(crate) const MOST_SHORT: u64 = 4294967295;
+
 // The most ids of a block, but for a list given as bytes.
 pub const MOST_IDS: usize = 4096;

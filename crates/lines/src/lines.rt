@@ -1,6 +1,7 @@
 // A line of a script: its operation, and what its fields say.
 use crate::limits::MOST_HISTORY;
 use crate::limits::MOST_IDS;
+use crate::limits::MOST_SHORT;
 use crate::page::Field;
 use crate::page::Operation;
 use crate::page::allowed;
@@ -43,7 +44,7 @@ fn last_in(word: &[u8]) -> Number
     if is(word, b"-") {
         return Number::Is(0);
     }
-    let n = number_in(word, 10, u32::MAX as u64);
+    let n = number_in(word, 10, MOST_SHORT);
     match n {
         Number::Is(h) => Number::Is(h + 1),
         Number::Bad => Number::Bad,
@@ -212,10 +213,10 @@ fn with_fields(line: &[u8], operation: Operation, at: usize) -> Line
         fits: true,
         value: 0,
     };
-    let fa = fields.a;
-    let fb = fields.b;
-    let fc = fields.c;
-    let fd = fields.d;
+    let fa = fields.0;
+    let fb = fields.1;
+    let fc = fields.2;
+    let fd = fields.3;
     let a = take(line, begin, fa);
     let b = take(line, a, fb);
     let c = take(line, b, fc);

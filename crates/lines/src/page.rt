@@ -3,12 +3,13 @@ use crate::limits::MOST_COUNTS;
 use crate::limits::MOST_HISTORY;
 use crate::limits::MOST_PENDING;
 use crate::limits::MOST_RECENT;
+use crate::limits::MOST_SHORT;
 use check::same;
 use kinds::ID_SIZE;
 ghost use mathlib.Core.Path.{_≡_};
 ghost use mathlib.Core.Bool.{cond};
 ghost use Rattle.rules.specs.Ids.{same};
-ghost use Rattle.lines.specs.Page.{found, calls, questions, operation-of, allowed, four, one, fields-of};
+ghost use Rattle.lines.specs.Page.{found, calls, questions, operation-of, allowed, fields-of};
 
 // An operation, by its first word.
 pub enum Operation {
@@ -57,12 +58,7 @@ pub(crate) enum Field {
 }
 
 // The fields of an operation, in the order of the line.
-pub(crate) struct Fields {
-    pub a: Field,
-    pub b: Field,
-    pub c: Field,
-    pub d: Field,
-}
+pub(crate) struct Fields(pub Field, pub Field, pub Field, pub Field);
 
 // Whether the word is this text.
 pub(crate) fn is(word: &[u8], text: &[u8]) -> bool
@@ -127,20 +123,6 @@ pub(crate) fn allowed(word: &[u8], begun: bool) -> Operation
     named(word, b"lend", Operation::Lend, Operation::Unfit)
 }
 
-// Four fields.
-fn row(a: Field, b: Field, c: Field, d: Field) -> Fields
-    ensures { λ r. ⌜ r ≡ four a b c d ⌝ }
-{
-    Fields { a, b, c, d }
-}
-
-// One field, or none.
-fn only(a: Field) -> Fields
-    ensures { λ r. ⌜ r ≡ one a ⌝ }
-{
-    row(a, Field::Nothing, Field::Nothing, Field::Nothing)
-}
-
 // The fields of each operation.
 pub(crate) fn fields_of(of: Operation) -> Fields
     ensures { λ r. ⌜ r ≡ fields-of of ⌝ }
@@ -150,28 +132,28 @@ pub(crate) fn fields_of(of: Operation) -> Fields
     let recent = Field::Number(MOST_RECENT as u64);
     let counts = Field::Number(MOST_COUNTS as u64);
     let history = Field::Number(MOST_HISTORY as u64);
-    let short = Field::Number(u32::MAX as u64);
+    let short = Field::Number(MOST_SHORT);
     let long = Field::Number(u64::MAX);
     let id = Field::Bytes(ID_SIZE);
     let some = Field::Bytes(MOST_HISTORY);
     match of {
-        Operation::Lend => row(pending, recent, counts, counts),
-        Operation::Byte => row(Field::Table, recent, some, none),
-        Operation::Count => row(Field::Kind, counts, Field::Pattern, none),
-        Operation::State => row(Field::Last, short, short, none),
-        Operation::Enter => row(id, long, short, none),
-        Operation::Leave => only(id),
-        Operation::Block => row(short, Field::Ids, none, none),
-        Operation::BlockRaw => row(short, Field::Any, none, none),
-        Operation::Estimate => only(short),
-        Operation::Bucket => only(long),
-        Operation::Write => only(history),
-        Operation::Read => only(Field::Any),
-        Operation::Start => only(none),
-        Operation::Estimates => only(none),
-        Operation::Again => only(none),
-        Operation::Sum => only(none),
-        Operation::Unfit => only(none),
-        Operation::PassedOver => only(none),
+        Operation::Lend => Fields(pending, recent, counts, counts),
+        Operation::Byte => Fields(Field::Table, recent, some, none),
+        Operation::Count => Fields(Field::Kind, counts, Field::Pattern, none),
+        Operation::State => Fields(Field::Last, short, short, none),
+        Operation::Enter => Fields(id, long, short, none),
+        Operation::Leave => Fields(id, none, none, none),
+        Operation::Block => Fields(short, Field::Ids, none, none),
+        Operation::BlockRaw => Fields(short, Field::Any, none, none),
+        Operation::Estimate => Fields(short, none, none, none),
+        Operation::Bucket => Fields(long, none, none, none),
+        Operation::Write => Fields(history, none, none, none),
+        Operation::Read => Fields(Field::Any, none, none, none),
+        Operation::Start => Fields(none, none, none, none),
+        Operation::Estimates => Fields(none, none, none, none),
+        Operation::Again => Fields(none, none, none, none),
+        Operation::Sum => Fields(none, none, none, none),
+        Operation::Unfit => Fields(none, none, none, none),
+        Operation::PassedOver => Fields(none, none, none, none),
     }
 }

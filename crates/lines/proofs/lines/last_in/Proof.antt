@@ -20,9 +20,6 @@ returns : tie.Need-returns
 unfolding last-of
 returns c = rw (sym (c .before .is .ensures) ∙ c .if1 .taken)
 
-add-t10 : tie.Need-add-t10
-add-t10 c = let b = at-most 10 most-short _ _ (number c) in omega arith
-
 returns-2 : tie.Need-returns-2
 unfolding last-of
 returns-2 c = rw (sym (c .before .before .before .before .before .is .ensures) ∙ c .before .before .before .before .if1 .left, number c)
@@ -38,10 +35,9 @@ last-in-spec =
     (λ c. search needs)
     (λ c κs. search needs)
     returns
-    (λ c. search needs)
     (λ c κs. search needs)
     (λ c. search needs)
-    add-t10
+    (λ c. let b = at-most 10 most-short _ _ (number c) in omega arith)
     (λ c. search needs)
     returns-2
     returns-3)
