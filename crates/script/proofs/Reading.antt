@@ -1,17 +1,19 @@
 -- Laws of numbers in digits, as a loop from the first digit goes: what is left, read after what was read, says the whole number.
 -- Assumes nothing.
 use mathlib.Core.Path.{_≡_, refl}
-use mathlib.Core.Bool.{Bool, true, false, _&&_}
+use mathlib.Core.Bool.{Bool, true, false, _&&_, cond}
 use mathlib.Core.List.{List, [], _∷_}
 use Prim.Native.Nat.{ℕ, _+_, _*_, _-_, _/_, _≤_, _<_}
 use native.Mathlib.Nat.{suc-ne-zero, le-div-iff-mul-le, div-lt-iff-lt-mul, mul-le-mul-left}
 use native.Mathlib.Numerals.{add-one}
 use native.Mathlib.Omega.{arith}
-use borrow.Author.Tests.{le-leb, lt-leb, lt-ltb, le-ltb}
+use borrow.Author.Tests.{le-leb, lt-leb, lt-ltb, le-ltb, leb-true}
+use lib.Dec.{leb}
 use lib.ListN.{length, drop, getD, drop-of-length-le}
 use lib.Seq.{drop-cons}
 use Rattle.rules.specs.Lists.{every}
-use Rattle.script.specs.Digits.{digit, value-after, number-after, number-of}
+use Rattle.rules.proofs.Records.{and-right}
+use Rattle.script.specs.Digits.{digit, in-base, value-after, number-after, number-of}
 use Rattle.script.specs.declared.numbers.Number.{Number}
 
 -- values only grow
@@ -67,3 +69,16 @@ within base most n d b h k = let g : n * base ≤ most - d = le-div-iff-mul-le b
 
 pub beyond : (base most n d : ℕ) → 0 < base → d ≤ most → (most - d) / base < n → most < n * base + d
 beyond base most n d b h k = let g : most - d < n * base = div-lt-iff-lt-mul b .0 k in omega arith
+
+-- a number that a word says is within the bound
+pub at-most : (base most : ℕ) (w : List ℕ) (h : ℕ) → number-of base most w ≡ Number.Is h → h ≤ most
+unfolding number-of number-after
+at-most base most [] h e = let z : _≡_ {A = ℕ} 0 1 = cc in absurd (omega arith)
+at-most base most (x ∷ xs) h e = go (every (in-base base) (x ∷ xs) && leb (value-after base 0 (x ∷ xs)) most) refl e
+  where
+    go : (t : Bool) → every (in-base base) (x ∷ xs) && leb (value-after base 0 (x ∷ xs)) most ≡ t → cond t (Number.Is (value-after base 0 (x ∷ xs))) Number.Bad ≡ Number.Is h → h ≤ most
+    go true b k =
+        let m = leb-true (value-after base 0 (x ∷ xs)) most (and-right (every (in-base base) (x ∷ xs)) _ b) in
+        let z : value-after base 0 (x ∷ xs) ≡ h = cc in
+        omega arith
+    go false b k = let z : _≡_ {A = ℕ} 0 1 = cc in absurd (omega arith)

@@ -33,9 +33,13 @@ unfoldable pub hex-into : List ℕ → List ℕ → Filled
 hex-into w out =
     cond (leb (length w / 2) (length out) && is-hex w) (filled (Decoded.Bytes (length w / 2)) (hex-bytes w ++ drop (length w / 2) out)) (filled Decoded.Bad out)
 
+-- 1 to `most` bytes
+abbrev pub some-bytes : ℕ → List ℕ → Bool
+some-bytes most w = not (eqb (length w) 0) && (leb (length w / 2) most && is-hex w)
+
 -- 1 to 32 bytes
 unfoldable pub is-id : List ℕ → Bool
-is-id w = not (eqb (length w) 0) && (leb (length w / 2) 32 && is-hex w)
+is-id w = some-bytes 32 w
 
 -- the bytes of an id, with zeros at the right; of no id, zeros
 unfoldable pub id-bytes : List ℕ → List ℕ

@@ -1,0 +1,10 @@
+-- Laws of it.
+
+-- words compared, and the rows of the page
+pub mod Naming
+-- the ids of a block
+pub mod Listed
+-- a line, word by word
+pub mod Taking
+-- lines and what they ask for, computed
+pub mod Examples

@@ -1,0 +1,8 @@
+-- The scripts' page.
+
+-- its words, in ASCII codes
+pub mod Words
+-- its operations and their fields
+pub mod Page
+-- what a line asks for
+pub mod Lines

@@ -1,0 +1,22 @@
+// The bounds of the scripts' page.
+
+// The most bytes of a script.
+pub const MOST_SCRIPT: usize = 2097152;
+
+// The most bytes that are lent for pending records.
+pub const MOST_PENDING: usize = 440100;
+
+// The most bytes that are lent for confirmed records.
+pub const MOST_RECENT: usize = 720100;
+
+// The most counts that are lent of each kind.
+pub const MOST_COUNTS: usize = 3600;
+
+// The most bytes that a history is written into, and that a word says in digits.
+pub const MOST_HISTORY: usize = 1400000;
+
+// The highest number of 32 bits.
+pub(crate) const MOST_SHORT: u64 = 4294967295;
+
+// The most ids of a block, but for a list given as bytes.
+pub const MOST_IDS: usize = 4096;
