@@ -1,19 +1,22 @@
-// The calls that change the estimator.
-use crate::lines::Line;
-use crate::ops::Name;
-use crate::replies::Ran;
-use crate::replies::Said;
-use crate::replies::numbered;
-use crate::words::low32;
+// The calls that change the estimator. Each says its answer, and gives the state after it.
+use crate::lays::lay;
+use crate::says::say_line;
+use crate::says::say_reading;
 use kinds::FeeRate;
 use kinds::Height;
 use kinds::ID_SIZE;
+use kinds::Last;
 use kinds::ReadAnswer;
-use kinds::Reading;
 use kinds::StartAnswer;
-use kinds::Started;
 use kinds::State;
+use lines::Line;
+use lines::Operation;
 use print::put;
+
+// A height of a line, which is of 32 bits.
+fn height(n: u64) -> Height {
+    Height((n % 4294967296) as u32)
+}
 
 // The id of these bytes, with zeros at the right.
 fn id_of(bytes: &[u8]) -> [u8; 32] {
@@ -22,49 +25,139 @@ fn id_of(bytes: &[u8]) -> [u8; 32] {
     id
 }
 
-// enter
-fn enter(state: State, id: &[u8], rate: FeeRate, height: Height, pending: &mut [u8]) -> Ran {
+// enter and leave
+fn pass(line: Line, state: State, id: &[u8], pending: &mut [u8]) -> State {
+    let of = line.operation;
     let id = id_of(id);
-    let r = estimator::tx_entered(state, pending, &id, rate, height);
-    let answer = r.answer;
-    numbered(answer.number(), r.state)
-}
-
-// leave
-fn leave(state: State, id: &[u8], pending: &mut [u8]) -> Ran {
-    let id = id_of(id);
-    let r = estimator::tx_left(state, pending, &id);
-    let answer = r.answer;
-    numbered(answer.number(), r.state)
-}
-
-// start: a refused one leaves the state that the run had.
-fn started(r: Started, before: State) -> Ran {
-    let answer = r.answer;
-    let after = r.state;
-    match answer {
-        StartAnswer::Done => numbered(answer.number(), after),
-        StartAnswer::Damaged => numbered(answer.number(), before),
+    match of {
+        Operation::Enter => {
+            let r = estimator::tx_entered(state, pending, &id, FeeRate(line.b), height(line.c));
+            let answer = r.answer;
+            say_line(answer.number() as u64);
+            r.state
+        }
+        _ => {
+            let r = estimator::tx_left(state, pending, &id);
+            let answer = r.answer;
+            say_line(answer.number() as u64);
+            r.state
+        }
     }
 }
 
-// read: a refused one leaves the state that the run had.
-fn reading(r: Reading, before: State) -> Ran {
-    let answer = r.answer;
-    let after = r.state;
+// The state after a start: a refused one leaves the one before.
+fn started(answer: StartAnswer, after: State, before: State) -> State {
     match answer {
-        ReadAnswer::Done => numbered(answer.number(), after),
-        ReadAnswer::UnknownVersion(v) => Ran {
-            said: Said::Carrying,
-            n: answer.number() as u64,
-            m: v as u64,
-            state: before,
-        },
-        _ => numbered(answer.number(), before),
+        StartAnswer::Done => after,
+        StartAnswer::Damaged => before,
     }
 }
 
-// Runs a call that changes the estimator, with its bytes: an id, a list of ids, or a history.
+// start
+fn start(
+    state: State,
+    pending: &mut [u8],
+    recent: &mut [u8],
+    confirmed: &mut [f64],
+    resolved: &mut [f64],
+) -> State {
+    let r = estimator::new(confirmed, resolved, pending, recent);
+    let answer = r.answer;
+    say_line(answer.number() as u64);
+    started(answer, r.state, state)
+}
+
+// block and blockraw
+fn block(
+    state: State,
+    height: Height,
+    ids: &[u8],
+    pending: &mut [u8],
+    recent: &mut [u8],
+    confirmed: &mut [f64],
+    resolved: &mut [f64],
+) -> State {
+    let r = estimator::block_connected(state, confirmed, resolved, pending, recent, ids, height);
+    let answer = r.answer;
+    say_line(answer.number() as u64);
+    r.state
+}
+
+// The state after a reading: a refused one leaves the one before.
+fn settled(answer: ReadAnswer, after: State, before: State) -> State {
+    match answer {
+        ReadAnswer::Done => after,
+        _ => before,
+    }
+}
+
+// read and again
+fn read(
+    state: State,
+    history: &[u8],
+    pending: &mut [u8],
+    recent: &mut [u8],
+    confirmed: &mut [f64],
+    resolved: &mut [f64],
+) -> State {
+    let r = estimator::from_history_bytes(history, confirmed, resolved, pending, recent);
+    let answer = r.answer;
+    say_reading(answer);
+    settled(answer, r.state, state)
+}
+
+// state: the last height is told plus 1, or 0 for none.
+fn state_in(line: Line) -> State {
+    let pending = line.b as usize;
+    let recent = line.c as usize;
+    let n = line.a;
+    if n == 0 {
+        return State {
+            last: Last::Nothing,
+            pending,
+            recent,
+        };
+    }
+    State {
+        last: Last::At(height(n - 1)),
+        pending,
+        recent,
+    }
+}
+
+// What an operation has done: whether it fits the lent memory, and the state after it.
+pub(crate) struct Done {
+    pub fits: bool,
+    pub state: State,
+}
+
+// The state after a call with these bytes: an id, a list of ids, or a history. A line that is no call leaves it as it is.
+fn call(
+    line: Line,
+    state: State,
+    text: &[u8],
+    pending: &mut [u8],
+    recent: &mut [u8],
+    confirmed: &mut [f64],
+    resolved: &mut [f64],
+) -> State {
+    let of = line.operation;
+    match of {
+        Operation::State => state_in(line),
+        Operation::Enter | Operation::Leave => pass(line, state, text, pending),
+        Operation::Start => start(state, pending, recent, confirmed, resolved),
+        Operation::Block | Operation::BlockRaw => {
+            let h = height(line.a);
+            block(state, h, text, pending, recent, confirmed, resolved)
+        }
+        Operation::Read | Operation::Again => {
+            read(state, text, pending, recent, confirmed, resolved)
+        }
+        _ => state,
+    }
+}
+
+// What a line does to the lent memory and the state.
 pub(crate) fn change(
     line: Line,
     state: State,
@@ -73,32 +166,19 @@ pub(crate) fn change(
     recent: &mut [u8],
     confirmed: &mut [f64],
     resolved: &mut [f64],
-) -> Ran {
-    let name = line.name;
-    match name {
-        Name::Enter => enter(state, text, FeeRate(line.a), Height(low32(line.b)), pending),
-        Name::Leave => leave(state, text, pending),
-        Name::Start => {
-            let r = estimator::new(confirmed, resolved, pending, recent);
-            started(r, state)
-        }
-        Name::Block | Name::RawBlock => {
-            let height = Height(low32(line.a));
-            let r = estimator::block_connected(
-                state,
-                confirmed,
-                resolved,
-                pending,
-                recent,
-                text,
-                height,
-            );
-            let answer = r.answer;
-            numbered(answer.number(), r.state)
+) -> Done {
+    let of = line.operation;
+    match of {
+        Operation::Lend | Operation::Byte | Operation::Count | Operation::Unfit => {
+            let fits = lay(line, text, pending, recent, confirmed, resolved);
+            Done { fits, state }
         }
         _ => {
-            let r = estimator::from_history_bytes(text, confirmed, resolved, pending, recent);
-            reading(r, state)
+            let moved = call(line, state, text, pending, recent, confirmed, resolved);
+            Done {
+                fits: true,
+                state: moved,
+            }
         }
     }
 }

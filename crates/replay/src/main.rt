@@ -2,23 +2,18 @@
 // are put into a buffer, and the call is made over the memory as it is lent.
 use libc::STDIN_FILENO;
 use libc::STDOUT_FILENO;
-use limits::MOST_COUNTS;
-use limits::MOST_HISTORY;
-use limits::MOST_PENDING;
-use limits::MOST_RECENT;
-use limits::MOST_SCRIPT;
+use lines::MOST_COUNTS;
+use lines::MOST_HISTORY;
+use lines::MOST_PENDING;
+use lines::MOST_RECENT;
+use lines::MOST_SCRIPT;
 
 mod asks;
 mod calls;
-mod edits;
-mod limits;
-mod lines;
-mod ops;
-mod parse;
-mod progress;
-mod replies;
+mod gathers;
+mod lays;
 mod run;
-mod words;
+mod says;
 
 // Reads the script, lends the memory, and runs it.
 fn main() {
@@ -34,7 +29,6 @@ fn main() {
     let mut resolved = [0.0f64; MOST_COUNTS];
     let mut buffer = [0u8; MOST_HISTORY];
     let mut kept = [0u8; MOST_HISTORY];
-    let mut out = [0u8; 65536];
     run::run(
         &script[..n],
         &mut pending,
@@ -43,6 +37,5 @@ fn main() {
         &mut resolved,
         &mut buffer,
         &mut kept,
-        &mut out,
     );
 }

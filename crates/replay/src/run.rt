@@ -1,171 +1,116 @@
 // A script, line by line.
-use crate::asks::tell;
+use crate::asks::ask;
+use crate::calls::Done;
 use crate::calls::change;
-use crate::edits::lay;
-use crate::lines::Line;
-use crate::lines::front;
-use crate::lines::least;
-use crate::lines::next_line;
-use crate::ops::Name;
-use crate::progress::Progress;
-use crate::progress::finish;
-use crate::progress::fresh;
-use crate::progress::going;
-use crate::progress::tell_reply;
-use crate::replies::Ran;
-use crate::replies::Said;
-use crate::replies::reply;
-use crate::words::low32;
-use kinds::FeeRate;
-use kinds::Height;
-use kinds::Last;
+use crate::gathers::asked;
+use crate::gathers::front;
+use crate::gathers::gather;
+use crate::gathers::least;
+use crate::says::say_end;
 use kinds::State;
+use lines::Line;
+use lines::Operation;
 
-// Which function an operation is for.
-enum Group {
-    Lay,
-    Change,
-    Tell,
-    Other,
-}
-
-// The function that an operation is for.
-fn group_of(name: Name) -> Group {
-    match name {
-        Name::Lend | Name::BytePending | Name::ByteConfirmed => Group::Lay,
-        Name::CountConfirmed | Name::CountResolved => Group::Lay,
-        Name::Start | Name::Enter | Name::Leave => Group::Change,
-        Name::Block | Name::RawBlock | Name::Read | Name::Again => Group::Change,
-        Name::Estimate | Name::Estimates | Name::Write | Name::Sum => Group::Tell,
-        _ => Group::Other,
-    }
-}
-
-// A last height plus 1, or 0 for none.
-fn last(n: u64) -> Last {
-    if n == 0 {
-        return Last::Nothing;
-    }
-    Last::At(Height(low32(n - 1)))
-}
-
-// The operations that need no memory.
-fn without_memory(line: Line, state: State) -> Ran {
-    let name = line.name;
-    match name {
-        Name::Unfit => reply(Said::Bad, 0, state),
-        Name::State => {
-            let after = State {
-                last: last(line.a),
-                pending: line.b as usize,
-                recent: line.c as usize,
-            };
-            reply(Said::Silent, 0, after)
-        }
-        Name::Bucket => {
-            let b = estimator::bucket_index_for_rate(FeeRate(line.a));
-            reply(Said::Number, b as u64, state)
-        }
-        _ => reply(Said::Silent, 0, state),
-    }
-}
-
-// An operation over the memory as it is lent.
-fn operate(
-    line: Line,
+// What a run keeps between two lines.
+struct Progress {
+    // Every line so far fits.
+    fits: bool,
+    // The first `lend` was there.
+    begun: bool,
+    // How much of each table, in bytes, and of each list of counts is lent.
+    pending: usize,
+    recent: usize,
+    confirmed: usize,
+    resolved: usize,
     state: State,
-    pending: &mut [u8],
-    recent: &mut [u8],
-    confirmed: &mut [f64],
-    resolved: &mut [f64],
-    buffer: &mut [u8],
-) -> Ran {
-    let name = line.name;
-    let n = line.bytes;
-    let of = group_of(name);
-    match of {
-        Group::Lay => {
-            let said = lay(line, front(buffer, n), pending, recent, confirmed, resolved);
-            reply(said, 0, state)
-        }
-        Group::Change => {
-            let text = front(buffer, n);
-            change(line, state, text, pending, recent, confirmed, resolved)
-        }
-        Group::Tell => tell(line, state, pending, recent, confirmed, resolved, buffer),
-        Group::Other => without_memory(line, state),
+    // The length of the history that the last accepted `write` wrote.
+    kept: usize,
+}
+
+// The beginning: nothing is lent.
+fn fresh() -> Progress {
+    Progress {
+        fits: true,
+        begun: false,
+        pending: 0,
+        recent: 0,
+        confirmed: 0,
+        resolved: 0,
+        state: State::empty(),
+        kept: 0,
     }
 }
 
-// An operation, over as much memory as is lent.
-fn operate_on_lent(
+// What a line leaves in the run; after a `lend` that much memory, and the empty state.
+fn after(r: Progress, line: Line, done: Done, kept: usize) -> Progress {
+    let of = line.operation;
+    let state = done.state;
+    match of {
+        Operation::Lend => Progress {
+            fits: true,
+            begun: true,
+            pending: line.a as usize,
+            recent: line.b as usize,
+            confirmed: line.c as usize,
+            resolved: line.d as usize,
+            state: State::empty(),
+            kept,
+        },
+        _ => Progress {
+            fits: done.fits,
+            begun: r.begun,
+            pending: r.pending,
+            recent: r.recent,
+            confirmed: r.confirmed,
+            resolved: r.resolved,
+            state,
+            kept,
+        },
+    }
+}
+
+// One line, over as much memory as is lent; `ended` where its LF is there. What it changes is done first, then what it asks for is told.
+fn turn(
     r: Progress,
-    line: Line,
+    text: &[u8],
+    ended: bool,
     pending: &mut [u8],
     recent: &mut [u8],
     confirmed: &mut [f64],
     resolved: &mut [f64],
     buffer: &mut [u8],
-) -> Ran {
-    let state = r.state;
+    kept: &mut [u8],
+) -> Progress {
+    let line = asked(text, ended, r.begun);
+    let n = gather(line, text, front(kept, r.kept), buffer);
     let p = least(r.pending, pending.len());
     let q = least(r.recent, recent.len());
     let a = least(r.confirmed, confirmed.len());
     let b = least(r.resolved, resolved.len());
-    operate(
+    let done = change(
         line,
-        state,
+        r.state,
+        front(buffer, n),
         &mut pending[0..p],
         &mut recent[0..q],
         &mut confirmed[0..a],
         &mut resolved[0..b],
-        buffer,
-    )
-}
-
-// One line, whose bytes are in the buffer.
-fn run_line(
-    r: Progress,
-    line: Line,
-    pending: &mut [u8],
-    recent: &mut [u8],
-    confirmed: &mut [f64],
-    resolved: &mut [f64],
-    buffer: &mut [u8],
-    kept: &mut [u8],
-    out: &mut [u8],
-) -> Progress {
-    let ran = operate_on_lent(r, line, pending, recent, confirmed, resolved, buffer);
-    tell_reply(r, line, ran, buffer, kept, out)
-}
-
-// The next line of the script.
-fn turn(
-    r: Progress,
-    script: &[u8],
-    pending: &mut [u8],
-    recent: &mut [u8],
-    confirmed: &mut [f64],
-    resolved: &mut [f64],
-    buffer: &mut [u8],
-    kept: &mut [u8],
-    out: &mut [u8],
-) -> Progress {
-    let line = next_line(script, r.next, r.begun, kept, r.kept, buffer);
-    run_line(
-        r,
+    );
+    let left = ask(
         line,
-        pending,
-        recent,
-        confirmed,
-        resolved,
+        r.state,
+        &pending[0..p],
+        &recent[0..q],
+        &confirmed[0..a],
+        &resolved[0..b],
         buffer,
         kept,
-        out,
-    )
+        r.kept,
+    );
+    after(r, line, done, left)
 }
 
-// A whole script. A line has one byte at least, so there are no more lines than bytes.
+// A whole script; a line that does not fit, or has no LF, is told by its number.
 pub(crate) fn run(
     script: &[u8],
     pending: &mut [u8],
@@ -174,26 +119,28 @@ pub(crate) fn run(
     resolved: &mut [f64],
     buffer: &mut [u8],
     kept: &mut [u8],
-    out: &mut [u8],
 ) {
     let mut r = fresh();
+    let mut at = 0;
     let mut lines = 0;
-    while lines < script.len() {
-        if !going(r, script) {
+    while at < script.len() {
+        if !r.fits {
             break;
         }
         lines += 1;
+        let end = bytes::scan::find(script, at, script.len(), b'\n');
         r = turn(
             r,
-            script,
+            &script[at..end],
+            end < script.len(),
             pending,
             recent,
             confirmed,
             resolved,
             buffer,
             kept,
-            out,
         );
+        at = end + 1;
     }
-    finish(r, lines, out);
+    say_end(r.fits, lines);
 }

@@ -32,9 +32,6 @@ slice-aggregate-run-6 c = long 1400000
 slice-aggregate-run-7 : tie.Need-slice-aggregate-run-7
 slice-aggregate-run-7 c = long 1400000
 
-slice-aggregate-run-8 : tie.Need-slice-aggregate-run-8
-slice-aggregate-run-8 c = long 65536
-
 pub main-spec : {M : Type 1} → statement M
 main-spec =
     tie.close
@@ -52,6 +49,5 @@ main-spec =
     (λ c. search needs)
     slice-aggregate-run-6
     slice-aggregate-run-7
-    slice-aggregate-run-8
     (λ c κs. search needs)
     (λ c. search needs))

@@ -1,27 +1,28 @@
--- `replay::edits::fill` is safe and ends: the slice keeps its length.
+-- `replay::lays::zero` is safe and ends: the slice keeps its length.
 -- Assumes nothing.
 use mathlib.Core.Path.{_≡_}
 use Prim.Native.Nat.{_-_}
 use native.Mathlib.Omega.{arith}
 use lib.ListN.{length, length-set}
-use Rattle.replay.proofs.edits.fill.Statement.{statement}
-use Rattle.replay.proofs.edits.fill.Tie as tie
+use Rattle.replay.proofs.lays.zero.Statement.{statement}
+use Rattle.replay.proofs.lays.zero.Tie as tie
 
 abbrev Inv-loop : tie.InvT-loop
-Inv-loop s₀ v i₀ s i = length s ≡ length s₀
+Inv-loop s₀ i₀ s i = length s ≡ length s₀
 
 abbrev μ-loop : tie.MeasureT-loop
-μ-loop s₀ v i₀ s i = length s₀ - i
+μ-loop s₀ i₀ s i = length s₀ - i
 
 loop-again : tie.Need-loop-again Inv-loop μ-loop
 loop-again c = simp length-set (c .before .loop .inv)
 
-pub fill-spec : {M : Type 1} → statement M
-fill-spec =
+pub zero-spec : {M : Type 1} → statement M
+zero-spec =
     tie.close
     (tie.spec
     Inv-loop
     μ-loop
+    (λ c. omega arith)
     (λ c. omega arith)
     (λ c. omega arith)
     (λ c. omega arith)
