@@ -6,14 +6,14 @@ use denote.Ref.{RefT, now}
 use denote.Triple.Both.{Both}
 use Rattle.rules.specs.Memory.{Lent, lent}
 
--- what `requires` asks about: what the slices hold when they are lent
+-- the four slices as a `requires` names them: what they hold when they are lent
 abbrev pub given : RefT (List Float) → RefT (List Float) → RefT (List ℕ) → RefT (List ℕ) → Lent
 given confirmed resolved pending recent = lent (now confirmed) (now resolved) (now pending) (now recent)
 
--- what `ensures` starts from: the same
+-- the four slices as an `ensures` names them: what they held when they were lent
 abbrev pub before : {P Q R S : Type 0} → Both (RefT (List Float)) P → Both (RefT (List Float)) Q → Both (RefT (List ℕ)) R → Both (RefT (List ℕ)) S → Lent
 before confirmed resolved pending recent = given (confirmed .entry) (resolved .entry) (pending .entry) (recent .entry)
 
--- what it ends with
+-- what the four slices of an `ensures` hold when they come back
 abbrev pub after : {P Q R S : Type 0} → Both P (RefT (List Float)) → Both Q (RefT (List Float)) → Both R (RefT (List ℕ)) → Both S (RefT (List ℕ)) → Lent
 after confirmed resolved pending recent = given (confirmed .exit) (resolved .exit) (pending .exit) (recent .exit)
