@@ -10,3 +10,5 @@ pub mod Taking
 pub mod Gathering
 -- lines and what they ask for, computed
 pub mod Examples
+-- lines and the bytes that they put, computed
+pub mod Gathered
