@@ -18,11 +18,12 @@ use Rattle.lines.specs.declared.gathers.Source.{Source}
 
 module _ (text : List ℕ) (at : ℕ) where
   -- what the word there says is what is decoded
-  pub said : (buffer bytes : List ℕ) (w : Word) (r : Decoded) → w ≡ word-from text at → filled r bytes ≡ hex-into (text-of text w) buffer → page bytes (how-many r) ≡ decoded text at buffer
+  pub said : (buffer bytes : List ℕ) (w : Word) (r t : Decoded) → w ≡ word-from text at → filled r bytes ≡ hex-into (text-of text w) buffer → r ≡ t
+      → page bytes (how-many t) ≡ decoded text at buffer
   unfolding decoded
-  said buffer bytes w r e h =
-      let into : Word → Filled = λ x. hex-into (text-of text x) buffer in
-      ap (λ (f : Filled). page (f .bytes) (how-many (f .answer))) (h ∙ ap into e)
+  said buffer bytes w r t e h told =
+      ap (λ (d : Decoded). page bytes (how-many d)) (sym told)
+      ∙ ap (λ (f : Filled). page (f .bytes) (how-many (f .answer))) (h ∙ ap (λ (x : Word). hex-into (text-of text x) buffer) e)
 
   module _ (p : Page) where
     -- no word is left

@@ -24,7 +24,7 @@ enum Source {
     Kept,
 }
 
-// Puts the bytes that the word at `at` says: how many. Of `-`, and of any word that is not digits, there are none.
+// Puts the bytes that the word at `at` says: how many. Of `-`, of any word that is not digits, and of one that has no room, there are none.
 fn decode(text: &[u8], at: usize, buffer: &mut [u8]) -> usize
     ensures { λ r. ⌜ page (now (buffer .exit)) r ≡ decoded (now (text .entry)) at (now (buffer .entry)) ⌝ }
 {
@@ -38,7 +38,7 @@ fn decode(text: &[u8], at: usize, buffer: &mut [u8]) -> usize
     }
 }
 
-// Puts the ids from `at` on, one after the other: how many bytes.
+// Puts the ids from `at` on, one after the other: how many bytes. An id that has no room is not put.
 fn list_ids(text: &[u8], at: usize, buffer: &mut [u8]) -> usize
     ensures { λ r. ⌜ page (now (buffer .exit)) r ≡ listed most-ids (now (text .entry)) at (page (now (buffer .entry)) 0) ⌝ }
 {

@@ -1,11 +1,7 @@
 -- `lines::gathers::decode` meets its contract.
 -- Assumes nothing.
-use mathlib.Core.Path.{sym, ap, _∙_}
 use borrow.Author.Needs.{needs}
 use denote.Ref.{now}
-use Rattle.print.specs.Page.{page}
-use Rattle.script.specs.declared.hex.Decoded.{Decoded}
-use Rattle.lines.specs.Gathers.{how-many}
 use Rattle.lines.proofs.Gathering.{said}
 use Rattle.lines.proofs.gathers.decode.Statement.{statement}
 use Rattle.lines.proofs.gathers.decode.Tie as tie
@@ -15,14 +11,14 @@ returns c =
     let a = c .before .before .before .before .before .before .before .before .before .before .before .args in
     let h = c .before .before .before .before .before .hex-into in
     let w = c .before .before .before .before .before .before .before .before .word-at in
-    ap (λ (r : Decoded). page (h .last .1 .0) (how-many r)) (sym (c .before .put .given .1)) ∙ said (now (a .text)) (a .at) (now (a .buffer)) (h .last .1 .0) (w .result) (h .result) (w .ensures .0) (h .ensures)
+    said (now (a .text)) (a .at) (now (a .buffer)) (h .last .1 .0) (w .result) (h .result) _ (w .ensures .0) (h .ensures) (c .before .put .given .1)
 
 returns-2 : tie.Need-returns-2
 returns-2 c =
     let a = c .before .before .before .before .before .before .before .before .before .before .args in
     let h = c .before .before .before .before .hex-into in
     let w = c .before .before .before .before .before .before .before .word-at in
-    ap (λ (r : Decoded). page (h .last .1 .0) (how-many r)) (sym (c .enum-told .given .1)) ∙ said (now (a .text)) (a .at) (now (a .buffer)) (h .last .1 .0) (w .result) (h .result) (w .ensures .0) (h .ensures)
+    said (now (a .text)) (a .at) (now (a .buffer)) (h .last .1 .0) (w .result) (h .result) _ (w .ensures .0) (h .ensures) (c .enum-told .given .1)
 
 pub decode-spec : {M : Type 1} → statement M
 decode-spec =

@@ -7,7 +7,7 @@ use native.Mathlib.Omega.{arith}
 use borrow.Author.Needs.{needs}
 use denote.Ref.{now}
 use lib.ListN.{length}
-use Rattle.print.specs.Page.{Page, page, write}
+use Rattle.print.specs.Page.{page, write}
 use Rattle.script.specs.Hex.{id-bytes}
 use Rattle.lines.specs.Page.{most-ids}
 use Rattle.lines.specs.Lines.{text-of}
