@@ -6,3 +6,5 @@ pub mod Words
 pub mod Page
 -- what a line asks for
 pub mod Lines
+-- the bytes that it works on
+pub mod Gathers

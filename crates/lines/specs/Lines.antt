@@ -126,3 +126,7 @@ unfoldable pub line-of : Bool → List ℕ → Line
 line-of begun line =
     let w = word-from line 0 in
     cond (passed-over line) (bare Operation.PassedOver) (with-fields line (allowed begun (text-of line w)) (w .to + 1))
+
+-- the same of a line that may lack its LF: without it the line does not fit
+unfoldable pub asked : Bool → Bool → List ℕ → Line
+asked ended begun line = cond ended (line-of begun line) (bare Operation.Unfit)

@@ -1,9 +1,11 @@
 // The scripts' page: what a line asks for.
-// `page`: the operations and their fields. `lines`: a line, word by word. `limits`: the page's bounds.
+// `page`: the operations and their fields. `lines`: a line, word by word. `gathers`: the bytes that it works on. `limits`: the page's bounds.
+mod gathers;
 mod limits;
 mod lines;
 mod page;
 
+pub use gathers::gather;
 pub use limits::MOST_COUNTS;
 pub use limits::MOST_HISTORY;
 pub use limits::MOST_IDS;
@@ -11,5 +13,6 @@ pub use limits::MOST_PENDING;
 pub use limits::MOST_RECENT;
 pub use limits::MOST_SCRIPT;
 pub use lines::Line;
+pub use lines::asked;
 pub use lines::line_in;
 pub use page::Operation;

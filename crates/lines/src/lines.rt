@@ -18,7 +18,7 @@ ghost use mathlib.Core.Path.{_≡_};
 ghost use Prim.Native.Nat.{_<_};
 ghost use Rattle.script.specs.Hex.{some-bytes};
 ghost use Rattle.lines.specs.Page.{most-ids};
-ghost use Rattle.lines.specs.Lines.{last-of, bits-of, one-of, any-of, placed, value-of, ids-from, behind, take-field, bare, with-fields, line-of};
+ghost use Rattle.lines.specs.Lines.{last-of, bits-of, one-of, any-of, placed, value-of, ids-from, behind, take-field, bare, with-fields, line-of, asked};
 
 // A line: its operation, and the values of its fields in their order. The value of bytes in digits, and of ids, is where they begin; of a last height
 // one more than it, and 0 for `-`; of one of two words 0 or 1, in the order of the page.
@@ -251,4 +251,14 @@ pub fn line_in(line: &[u8], begun: bool) -> Line
     let to = w.to;
     let of = allowed(&line[from..to], begun);
     with_fields(line, of, to + 1)
+}
+
+// What a line asks for: without its LF (`ended` false) it does not fit.
+pub fn asked(text: &[u8], ended: bool, begun: bool) -> Line
+    ensures { λ r. ⌜ r ≡ asked ended begun (now (text .entry)) ⌝ }
+{
+    if ended {
+        return line_in(text, begun);
+    }
+    bare(Operation::Unfit)
 }
