@@ -1,18 +1,23 @@
 -- What is laid into lent memory. Assumes nothing.
 use mathlib.Core.Path.{_≡_, refl, sym, ap, ap₂, _∙_}
 use mathlib.Core.Bool.{Bool, true, false}
-use mathlib.Core.List.{List, append-nil}
-use Prim.Native.Nat.{ℕ, _+_, _-_, _≤_}
+use mathlib.Core.List.{List, _++_, append-nil}
+use Prim.Native.Nat.{ℕ, _+_, _-_, _≤_, _<_}
+use native.Mathlib.Nat.{zero-add}
 use native.Mathlib.Omega.{arith}
 use borrow.Author.Tests.{eq-eqb, ne-eqb, le-leb, lt-leb, leb-true, leb-false}
 use lib.Dec.{leb}
-use lib.ListN.{length, replicate, drop-of-length-le}
+use lib.ListN.{length, drop, replicate, drop-of-length-le}
+use lib.Seq.{sets-eq}
 use lib.Ieee.{Float}
 use Rattle.rules.specs.Counts.{nought}
 use Rattle.rules.specs.Memory.{Lent, lent}
 use Rattle.lists.proofs.Upto.{Going, stop}
 use Rattle.counts.proofs.Clearing.{filled}
-use Rattle.desk.specs.Lays.{all, cleared, laid, in-one}
+use Rattle.print.specs.Page.{Page}
+use Rattle.print.proofs.Pages.{write-fits, write-none}
+use Rattle.desk.specs.Lays.{all, cleared, laid, in-one, with-bytes}
+use Rattle.desk.specs.Desk.{zeros, id-of}
 
 -- a loop that has gone through the whole list
 pub all-filled : {A : Type 0} {v : A} {xs₀ xs : List A} {i : ℕ} → Going (λ _. v) (length xs₀) xs₀ xs i → length xs₀ ≤ i → xs ≡ replicate (length xs₀) v
@@ -43,3 +48,17 @@ module _ {A : Type 0} (which : ℕ) (fits : A → Bool) (changed : A → A) (x y
   pub in-second : (which ≡ 0 → ⊥) → r ≡ fits y → z ≡ changed y → laid r x z ≡ in-one which fits changed x y
   unfolding in-one
   in-second n p q = ap₂ (λ (b : Bool) (t : A). laid b x t) p q ∙ sym (rw (ne-eqb which 0 n))
+
+-- ---- an id's bytes, laid over zeros
+
+laid-id : (text : List ℕ) (b : Bool) → leb (length text) 32 ≡ b → with-bytes 0 text zeros ≡ id-of text
+unfolding id-of
+laid-id text true e =
+    let h : 0 + length text ≤ length zeros = omega (arith, leb-true (length text) 32 e) in
+    ap (λ (p : Page). p .bytes) (write-fits text zeros 0 h) ∙ sets-eq text zeros 0 h ∙ ap (λ (k : ℕ). text ++ drop k zeros) (zero-add (length text)) ∙ sym (rw e)
+laid-id text false e =
+    let h : length zeros < 0 + length text = omega (arith, leb-false (length text) 32 e) in
+    ap (λ (p : Page). p .bytes) (write-none text zeros 0 h) ∙ sym (rw e)
+
+pub id-is : (text : List ℕ) → with-bytes 0 text zeros ≡ id-of text
+id-is text = laid-id text (leb (length text) 32) refl

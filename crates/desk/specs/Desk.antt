@@ -1,9 +1,9 @@
 -- What a line of a script does to the lent memory and to the state, and what it is answered with. Assumes nothing.
 use Prim.Native.Nat.{ℕ, _-_, _%_}
 use mathlib.Core.Bool.{Bool, true, false, cond}
-use mathlib.Core.List.{List, [], _∷_}
-use lib.Dec.{eqb}
-use lib.ListN.{replicate}
+use mathlib.Core.List.{List, [], _∷_, _++_}
+use lib.Dec.{eqb, leb}
+use lib.ListN.{length, drop, replicate}
 use Rattle.kinds.specs.declared.Height.{Height}
 use Rattle.kinds.specs.declared.Last.{Last}
 use Rattle.kinds.specs.declared.State.{State}
@@ -18,7 +18,7 @@ use Rattle.lines.specs.declared.page.Operation.{Operation}
 use Rattle.lines.specs.declared.lines.Line.{Line}
 use Rattle.desk.specs.declared.Reply.{Reply}
 use Rattle.desk.specs.declared.Done.{Done}
-use Rattle.desk.specs.Lays.{with-bytes, cleared, byte-lays, count-lays}
+use Rattle.desk.specs.Lays.{cleared, byte-lays, count-lays}
 
 -- all that can be seen of a line: what it has done, and the lent memory L after it
 pub record Did (L : Type 0) : Type 0 where
@@ -55,9 +55,13 @@ last-of n = cond (eqb n 0) Last.Nothing (Last.At (height-of (n - 1)))
 abbrev pub state-of : Line → State
 state-of line = record { last = last-of (line .a); pending = line .b; recent = line .c }
 
--- ID: the bytes, zero bytes added at the right to 32; bytes that do not fit are not taken
+-- an id of zeros
+abbrev pub zeros : Id
+zeros = replicate 32 0
+
+-- ID is 1 to 32 bytes, zero bytes added at the right; more bytes are none
 unfoldable pub id-of : List ℕ → Id
-id-of text = with-bytes 0 text (replicate 32 0)
+id-of text = cond (leb (length text) 32) (text ++ drop (length text) zeros) zeros
 
 -- ---- the calls
 
