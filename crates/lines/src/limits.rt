@@ -19,4 +19,4 @@ pub const MOST_HISTORY: usize = 1400000;
 pub(crate) const MOST_SHORT: u64 = 4294967295;
 
 // The most ids of a block, but for a list given as bytes.
-pub const MOST_IDS: usize = 4096;
+pub(crate) const MOST_IDS: usize = 4096;

@@ -237,7 +237,7 @@ fn with_fields(line: &[u8], operation: Operation, at: usize) -> Line
 }
 
 // What a line without its LF asks for; `begun` where a `lend` was there.
-pub fn line_in(line: &[u8], begun: bool) -> Line
+fn line_in(line: &[u8], begun: bool) -> Line
     ensures { λ r. ⌜ r ≡ line-of begun (now (line .entry)) ⌝ }
 {
     if line.len() == 0 {

@@ -1,7 +1,6 @@
 // The calls that change nothing in the estimator. Each says its answer.
-use crate::gathers::front;
-use crate::gathers::least;
-use crate::lays::fill;
+use crate::parts::front;
+use crate::parts::least;
 use crate::says::say;
 use crate::says::say_carrying;
 use crate::says::say_estimate;
@@ -11,6 +10,7 @@ use crate::says::say_sum;
 use crate::says::say_target;
 use crate::says::say_text;
 use crate::says::say_wrote;
+use desk::fill;
 use kinds::Blocks;
 use kinds::Estimated;
 use kinds::FeeRate;

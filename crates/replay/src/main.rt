@@ -1,5 +1,6 @@
-// Runs a script on standard input over memory of its own, and writes what each line is answered with. A line is parsed into an operation by value, its bytes
-// are put into a buffer, and the call is made over the memory as it is lent.
+// Runs a script on standard input over memory of its own, and writes what each line is answered with. What a line asks for is read by `lines`, and done by
+// `desk`, over as much of the memory as is lent; this program has the loop, the questions and the words.
+// `run`: line by line. `asks`: what changes nothing. `says`: what is written. `parts`: numbers and slices cut to what there is.
 use libc::STDIN_FILENO;
 use libc::STDOUT_FILENO;
 use lines::MOST_COUNTS;
@@ -7,28 +8,56 @@ use lines::MOST_HISTORY;
 use lines::MOST_PENDING;
 use lines::MOST_RECENT;
 use lines::MOST_SCRIPT;
+ghost use mathlib.Core.Path.{_≡_};
+ghost use lib.ListN.{length};
 
 mod asks;
-mod calls;
-mod gathers;
-mod lays;
+mod parts;
 mod run;
 mod says;
 
+// Zeros for a script, and one byte more, by which a longer one is known. The `ensures` of these functions give only the length, which lending needs.
+fn script_zeros() -> [u8; MOST_SCRIPT + 1]
+    ensures { λ r. ⌜ 2097153 ≡ length r ⌝ }
+{
+    [0u8; MOST_SCRIPT + 1]
+}
+
+// Zeros for pending records.
+fn pending_zeros() -> [u8; MOST_PENDING]
+    ensures { λ r. ⌜ 440100 ≡ length r ⌝ }
+{
+    [0u8; MOST_PENDING]
+}
+
+// Zeros for confirmed records.
+fn recent_zeros() -> [u8; MOST_RECENT]
+    ensures { λ r. ⌜ 720100 ≡ length r ⌝ }
+{
+    [0u8; MOST_RECENT]
+}
+
+// Zeros for a history.
+fn history_zeros() -> [u8; MOST_HISTORY]
+    ensures { λ r. ⌜ 1400000 ≡ length r ⌝ }
+{
+    [0u8; MOST_HISTORY]
+}
+
 // Reads the script, lends the memory, and runs it.
 fn main() {
-    let mut script = [0u8; MOST_SCRIPT + 1];
+    let mut script = script_zeros();
     let n = io::read_full(STDIN_FILENO, &mut script);
     if MOST_SCRIPT < n {
         io::write_all(STDOUT_FILENO, b"bad line 0\n");
         return;
     }
-    let mut pending = [0u8; MOST_PENDING];
-    let mut recent = [0u8; MOST_RECENT];
+    let mut pending = pending_zeros();
+    let mut recent = recent_zeros();
     let mut confirmed = [0.0f64; MOST_COUNTS];
     let mut resolved = [0.0f64; MOST_COUNTS];
-    let mut buffer = [0u8; MOST_HISTORY];
-    let mut kept = [0u8; MOST_HISTORY];
+    let mut buffer = history_zeros();
+    let mut kept = history_zeros();
     run::run(
         &script[..n],
         &mut pending,

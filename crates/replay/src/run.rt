@@ -1,15 +1,16 @@
 // A script, line by line.
 use crate::asks::ask;
-use crate::calls::Done;
-use crate::calls::change;
-use crate::gathers::asked;
-use crate::gathers::front;
-use crate::gathers::gather;
-use crate::gathers::least;
+use crate::parts::front;
+use crate::parts::least;
 use crate::says::say_end;
+use crate::says::say_reply;
+use desk::Done;
+use desk::change;
 use kinds::State;
 use lines::Line;
 use lines::Operation;
+use lines::asked;
+use lines::gather;
 
 // What a run keeps between two lines.
 struct Progress {
@@ -41,10 +42,13 @@ fn fresh() -> Progress {
     }
 }
 
-// What a line leaves in the run; after a `lend` that much memory, and the empty state.
+// Says what a line is answered with, and gives what it leaves in the run: after a `lend` that much memory, and the empty state. (What was lent before it is
+// zero then, and nothing beyond that was ever anything else.)
 fn after(r: Progress, line: Line, done: Done, kept: usize) -> Progress {
     let of = line.operation;
     let state = done.state;
+    let reply = done.reply;
+    say_reply(reply);
     match of {
         Operation::Lend => Progress {
             fits: true,

@@ -1,7 +1,7 @@
 // What is written: each word as soon as it is known.
+use desk::Reply;
 use kinds::Estimated;
 use kinds::Last;
-use kinds::ReadAnswer;
 use libc::STDOUT_FILENO;
 
 // A number.
@@ -49,11 +49,12 @@ pub(crate) fn say_target(e: Estimated) {
     }
 }
 
-// What a reading is answered with.
-pub(crate) fn say_reading(answer: ReadAnswer) {
-    match answer {
-        ReadAnswer::UnknownVersion(v) => say_carrying(answer.number(), v as u64),
-        _ => say_line(answer.number() as u64),
+// What a line is answered with, if anything.
+pub(crate) fn say_reply(reply: Reply) {
+    match reply {
+        Reply::Silent => {}
+        Reply::Number(n) => say_line(n as u64),
+        Reply::Carrying(n, carried) => say_carrying(n, carried),
     }
 }
 

@@ -1,0 +1,23 @@
+-- `desk::calls::leave` meets its contract. Assumes nothing.
+use mathlib.Core.Path.{ap, _∙_}
+use borrow.Author.Needs.{needs}
+use denote.Ref.{now}
+use Rattle.rules.specs.Board.{base}
+use Rattle.rules.specs.Ids.{Id}
+use Rattle.rules.specs.Calls.{leave-call}
+use Rattle.desk.specs.Desk.{leave-does}
+use Rattle.desk.proofs.Telling.{tells}
+use Rattle.desk.proofs.calls.leave.Statement.{statement}
+use Rattle.desk.proofs.calls.leave.Tie as tie
+
+returns : tie.Need-returns
+unfolding leave-does
+returns c =
+    let called = c .before .before .before .before in
+    let i = called .before .before .before in
+    let a = i .before .before .before .args in
+    let same = ap (λ (x : Id). leave-call base (a .state) (now (a .pending)) x) (i .id-in .ensures) in
+    tells _ _ _ _ _ _ (called .tx-left .ensures ∙ same) (c .before .number .ensures) (c .numbered .ensures)
+
+pub leave-spec : {M : Type 1} → statement M
+leave-spec = tie.close (tie.spec (λ c κs. search needs) (λ c κs. search needs) (λ c κs. search needs) (λ c κs. search needs) (λ c. search needs) returns)

@@ -1,0 +1,84 @@
+// What a line of a script does to the lent memory and to the state of a run, and what it is answered with. The page of scripts is the definition; what a
+// line says comes from `lines`, and the replies are printed by the program `replay`.
+// `lays`: what is done to the lent memory itself. `calls`: the estimator's calls.
+mod calls;
+mod lays;
+
+use calls::block;
+use calls::enter;
+use calls::leave;
+use calls::read;
+use calls::start;
+use calls::state_in;
+use kinds::State;
+use lays::clear;
+use lays::lay_bytes;
+use lays::lay_count;
+use lines::Line;
+use lines::Operation;
+ghost use mathlib.Core.Path.{_≡_};
+ghost use Rattle.rules.specs.Slices.{before, after};
+ghost use Rattle.desk.specs.Desk.{did, silent, line-does};
+pub use lays::fill;
+
+// What a line is answered with: nothing, a number, or a number and what it carries.
+pub enum Reply {
+    Silent,
+    Number(u32),
+    Carrying(u32, u64),
+}
+
+// What a line has done: whether it fits the lent memory, what it is answered with, and the state after it.
+pub struct Done {
+    pub fits: bool,
+    pub reply: Reply,
+    pub state: State,
+}
+
+// A line without an answer.
+fn silent(fits: bool, state: State) -> Done
+    ensures { λ r. ⌜ r ≡ silent fits state ⌝ }
+{
+    Done {
+        fits,
+        reply: Reply::Silent,
+        state,
+    }
+}
+
+// What a line with these bytes does to the lent memory and the state. A line that only asks does nothing here.
+pub fn change(
+    line: Line,
+    state: State,
+    text: &[u8],
+    pending: &mut [u8],
+    recent: &mut [u8],
+    confirmed: &mut [f64],
+    resolved: &mut [f64],
+) -> Done
+    ensures { λ r. ⌜
+        did r (after confirmed resolved pending recent)
+        ≡ line-does line state (now (text .entry)) (before confirmed resolved pending recent) ⌝ }
+{
+    let of = line.operation;
+    match of {
+        Operation::Unfit => silent(false, state),
+        Operation::Lend => {
+            clear(pending, recent, confirmed, resolved);
+            silent(true, state)
+        }
+        Operation::Byte => silent(lay_bytes(line, text, pending, recent), state),
+        Operation::Count => silent(lay_count(line, confirmed, resolved), state),
+        Operation::State => silent(true, state_in(line)),
+        Operation::Start => start(state, pending, recent, confirmed, resolved),
+        Operation::Enter => enter(line, state, text, pending),
+        Operation::Leave => leave(state, text, pending),
+        Operation::Block | Operation::BlockRaw => {
+            block(line, state, text, pending, recent, confirmed, resolved)
+        }
+        Operation::Read | Operation::Again => {
+            read(state, text, pending, recent, confirmed, resolved)
+        }
+        _ => silent(true, state),
+    }
+}
