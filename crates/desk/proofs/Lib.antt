@@ -6,3 +6,5 @@ pub mod Laying
 pub mod Telling
 -- the rows of the page
 pub mod Rows
+-- lines and what they do, computed
+pub mod Examples

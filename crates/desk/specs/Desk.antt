@@ -124,7 +124,7 @@ count-does line s l = let t = count-lays line (l .confirmed) (l .resolved) in di
 abbrev pub nothing : Bool → State → Lent → Did Lent
 nothing fits s l = did (silent fits s) l
 
--- the page, row by row; a line that only asks does nothing
+-- the page, row by row; a line that only asks does nothing. How much is lent by a `lend`, and that the state is then the empty one, the run sees to
 unfoldable pub operation-does : Operation → Line → State → List ℕ → Lent → Did Lent
 operation-does Operation.Unfit line s text l = nothing false s l
 operation-does Operation.PassedOver line s text l = nothing true s l
