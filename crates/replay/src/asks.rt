@@ -108,26 +108,16 @@ pub(crate) fn ask(
 ) -> usize {
     let of = line.operation;
     match of {
-        Operation::Bucket => {
-            say_line(estimator::bucket_index_for_rate(FeeRate(line.a)) as u64);
-            n
-        }
+        Operation::Bucket => say_line(estimator::bucket_index_for_rate(FeeRate(line.a)) as u64),
         Operation::Estimate => {
             let target = Blocks((line.a % 4294967296) as u32);
             say_estimate(estimator::estimate(state, confirmed, resolved, target));
-            n
         }
-        Operation::Estimates => {
-            estimates(state, confirmed, resolved);
-            n
-        }
-        Operation::Sum => {
-            sums(state, pending, recent, confirmed, resolved);
-            n
-        }
+        Operation::Estimates => estimates(state, confirmed, resolved),
+        Operation::Sum => sums(state, pending, recent, confirmed, resolved),
         Operation::Write => {
             let end = least(line.a as usize, buffer.len());
-            write(
+            return write(
                 state,
                 pending,
                 recent,
@@ -136,8 +126,9 @@ pub(crate) fn ask(
                 &mut buffer[0..end],
                 kept,
                 n,
-            )
+            );
         }
-        _ => n,
+        _ => {}
     }
+    n
 }
