@@ -5,7 +5,7 @@ The node `continued` goes on from its history's last height; the chain of the no
 the blocks over document 01 (rules.py) as it writes their lines, so that memory can be laid by hand and each line is known."""
 
 from files import bits
-from rules import PENDING, RECENT, Block, Memory, Run, bucket_of, place
+from rules import BUCKETS, PENDING, RECENT, Block, Memory, Run, bucket_of, place
 
 LENT = 13_200, 10_800, 3_550, 3_550
 WEEK, CLEAR = 1_008, 1_500
@@ -13,6 +13,7 @@ CHAIN = 850_000
 NODES = {"continued": CHAIN, "ahead": CHAIN + 150_000}  # the last height of each node's history
 BUSY_RATE, FAILED_RATE, CLEAR_RATE = 50_000, 10_000, 2_000
 ROOM = 100_000  # more bytes than the history has
+SWITCHES = 655, 1_346  # the clear block after which each node's rate is 1,000
 
 
 def name(number):
@@ -31,7 +32,7 @@ def failed_ids(block):
 
 def is_due(block):
     """Whether a node's rate and memory are told after so many clear blocks."""
-    return block % 10 == 0 or block in (1, 346)
+    return block % 10 == 0 or block in (1, 346) or block in SWITCHES or block + 1 in SWITCHES
 
 
 class Node:
@@ -84,6 +85,15 @@ class Node:
         """For target 2: resolved of the week's failed, confirmed of the week's others, confirmed of the clear blocks."""
         memory = self.run.memory
         return [counts[place(bucket_of(rate), 2)] for counts, rate in ((memory.resolved, FAILED_RATE), (memory.confirmed, BUSY_RATE), (memory.confirmed, CLEAR_RATE))]
+
+    def success(self):
+        """For target 2: the ratio that the estimate forms where it has added up all that was seen at the clear blocks' rate or above."""
+        buckets = reversed(range(bucket_of(CLEAR_RATE), BUCKETS))
+        confirmed = resolved = 0.0
+        for at in (place(bucket, 2) for bucket in buckets):
+            confirmed += self.run.memory.confirmed[at]
+            resolved += self.run.memory.resolved[at]
+        return confirmed / resolved
 
 
 def after_week(last):

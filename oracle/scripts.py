@@ -5,10 +5,12 @@ import re
 import edges
 import exhaustive
 import flavours
+import leaps
 import page
 import worked
 
-KINDS = ["fixed", "worked", "exhaustive", "random"]
+KINDS = ["fixed", "worked", "exhaustive", "random", "leaps"]
+RANDOM_FOR_A_LEAP = 40  # random scripts, for each that leaps over a gap above 4,096
 
 
 def scripts(kind, seed, count):
@@ -21,7 +23,8 @@ def scripts(kind, seed, count):
     elif kind == "exhaustive":
         yield from ((name, text, None) for name, text in exhaustive.scripts())
     else:
-        yield from ((*flavours.script(seed, number), None) for number in range(1, count + 1))
+        maker, many = (flavours, count) if kind == "random" else (leaps, -(-count // RANDOM_FOR_A_LEAP))
+        yield from ((*maker.script(seed, number), None) for number in range(1, many + 1))
 
 
 def titled(kind, seed, count):

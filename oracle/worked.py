@@ -2,6 +2,7 @@
 
 They are written as in edges.py. No line prints a count: memory laid by hand, in which the document's counts stand, must give the same sum."""
 
+import crowd
 import incident
 from edges import FRESH, FRESH_FILE, LEND, all_targets, joined, laid, rate_cases, script
 from files import FRESH_LENGTH, adler, file, pending_record, recent_record, u32
@@ -125,13 +126,20 @@ def cases():
     yield from files()
 
 
+def in_gate():
+    """What the gate runs too: the document's cases, and both halves of the incident, which docs/incident/picture finds at the end."""
+    yield from cases()
+    yield "incident", incident.script()
+    yield "incident, crowded", crowd.script()
+
+
 def for_gate():
-    """Titles and bytes of the document's cases and the incident."""
-    for title, text in [*cases(), ("incident", incident.script())]:
+    """Titles and bytes of what the gate runs."""
+    for title, text in in_gate():
         yield title, script(text)[0]
 
 
 def scripts():
-    """Each title, the bytes, and the answers: the document's cases, the incident, and the weeks that the incident begins with."""
-    for title, text in [*cases(), ("incident", incident.script()), *incident.weeks()]:
+    """Each title, the bytes, and the answers: the same, and the weeks that the incident begins with."""
+    for title, text in [*in_gate(), *incident.weeks()]:
         yield title, *script(text)

@@ -1,5 +1,6 @@
 //! Runs a script from standard input through the Rust fee estimator and prints the lines that `replay` must print.
-//! With `--mark` each line begins with `R ` where it says what the Rust did, and with `- ` where the driver worked it out by itself.
+//! With `--mark` each line begins with `R ` where it says what the Rust did, and with `- ` where the driver worked it out by itself. With `--any-gap` a block
+//! is not refused for its height: the Rust crosses any gap in one call.
 
 extern crate alloc;
 
@@ -14,18 +15,21 @@ use run::{Line, Run};
 use std::io::{self, Read, Write};
 
 fn main() -> io::Result<()> {
-    let mark = match std::env::args().skip(1).collect::<Vec<_>>().as_slice() {
-        [] => false,
-        [option] if option == "--mark" => true,
-        _ => {
-            eprintln!("usage: oracle [--mark] <SCRIPT");
-            std::process::exit(2);
+    let (mut mark, mut any_gap) = (false, false);
+    for option in std::env::args().skip(1) {
+        match option.as_str() {
+            "--mark" => mark = true,
+            "--any-gap" => any_gap = true,
+            _ => {
+                eprintln!("usage: oracle [--mark] [--any-gap] <SCRIPT");
+                std::process::exit(2);
+            }
         }
-    };
+    }
     let mut script = Vec::new();
     io::stdin().read_to_end(&mut script)?;
     let mut out = io::BufWriter::new(io::stdout().lock());
-    for Line { text, from_rust } in lines(&script) {
+    for Line { text, from_rust } in lines(&script, any_gap) {
         let tag = match (mark, from_rust) {
             (false, _) => "",
             (true, true) => "R ",
@@ -37,12 +41,12 @@ fn main() -> io::Result<()> {
 }
 
 /// All lines that the script prints.
-fn lines(script: &[u8]) -> Vec<Line> {
+fn lines(script: &[u8], any_gap: bool) -> Vec<Line> {
     let bad = |number: usize| Line { text: format!("bad line {number}"), from_rust: false };
     if script.len() > script::MOST_BYTES {
         return vec![bad(0)];
     }
-    let mut run = Run::default();
+    let mut run = Run::new(any_gap);
     let mut printed = Vec::new();
     for (before, line) in script.split_inclusive(|&byte| byte == b'\n').enumerate() {
         match step(&mut run, line) {

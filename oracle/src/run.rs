@@ -30,15 +30,20 @@ fn own(text: impl ToString) -> Line {
 /// The operation does not fit the memory lent.
 pub struct Unfit;
 
-#[derive(Default)]
 pub struct Run {
     memory: Option<Memory>,
     written: Vec<u8>,
     /// The Rust object whose state is the memory's; none after damage.
     live: Option<FeeEstimator>,
+    widest_gap: u32,
 }
 
 impl Run {
+    pub fn new(any_gap: bool) -> Self {
+        let widest_gap = if any_gap { u32::MAX } else { WIDEST_GAP };
+        Self { memory: None, written: Vec::new(), live: None, widest_gap }
+    }
+
     /// Runs one operation and answers the line that it prints, if it prints one.
     pub fn step(&mut self, op: Op) -> Result<Option<Line>, Unfit> {
         match (op, &mut self.memory) {
@@ -52,7 +57,7 @@ impl Run {
                 damaged(memory, damage).ok_or(Unfit).map(|()| None)
             }
             (Op::Call(call), Some(memory)) => {
-                let session = Session { memory, live: &mut self.live };
+                let session = Session { memory, live: &mut self.live, widest_gap: self.widest_gap };
                 Ok(Some(session.call(call, &mut self.written)))
             }
             (_, None) => Err(Unfit),
@@ -85,6 +90,7 @@ fn damaged(memory: &mut Memory, damage: Damage) -> Option<()> {
 struct Session<'a> {
     memory: &'a mut Memory,
     live: &'a mut Option<FeeEstimator>,
+    widest_gap: u32,
 }
 
 impl Session<'_> {
@@ -170,7 +176,7 @@ impl Session<'_> {
         let listings = ids.iter().filter(|id| estimator.is_pending(id)).count();
         let refusal = if !odd.is_empty() {
             Some(5)
-        } else if gap > WIDEST_GAP {
+        } else if gap > self.widest_gap {
             Some(6)
         } else if self.memory.state.recent + listings > self.memory.recent_capacity() {
             Some(7)

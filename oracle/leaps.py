@@ -1,0 +1,63 @@
+"""Random scripts with gaps above 4,096 heights, which the library refuses to cross at once (answer 6) and the Rust crosses in one call.
+
+The library crosses such a gap by empty blocks at most 4,096 heights apart, each behind the line `# step`. The oracle runs the script without these blocks, and
+with --any-gap; all other lines must be the same."""
+
+import random
+
+from flavours import restore, roomy
+from histories import any_file
+from walk import TOP, Walk
+
+STEP = b"# step\n"
+WIDEST = 4_096
+SILENT = (b"lend", b"byte", b"count", b"state")
+
+
+def leap(walk, height):
+    """A block far above the last one, and the steps that lead there: as few as there can be, or more."""
+    rng, at = walk.rng, walk.last
+    uneven = rng.random() < 0.5
+    while height - at > WIDEST or uneven and height - at > 1 and rng.random() < 0.5:
+        far = min(WIDEST, height - at - 1)
+        at += rng.randint(max(1, far - 40), far) if uneven else far
+        walk.lines += [STEP.decode().strip(), f"block {at}"]
+    walk.block(height)
+
+
+def script(seed, number):
+    """The name and the bytes of one script: from fresh or from a history, with records of every age before each leap and after it."""
+    rng = random.Random(f"leap {seed} {number}")
+    walk = Walk(rng, pool=6)
+    roomy(walk)
+    walk.start()
+    if rng.random() < 0.4:
+        restore(walk, any_file(rng, rng.randint(0, 6), rng.randint(0, 12)))
+    walk.steps(15)
+    for _ in range(3):
+        walk.block()
+        height = walk.last + WIDEST + rng.choice([1, 1, 2, WIDEST, WIDEST + 1, rng.randrange(1, 9_000)])
+        if height <= TOP:
+            leap(walk, height)
+        walk.lines += ["sum", "estimates"]
+        walk.steps(8)
+    return f"leaps {number}", walk.text()
+
+
+def without_steps(text):
+    """The script as the oracle runs it."""
+    head, *parts = text.split(STEP)
+    return head + b"".join(part.partition(b"\n")[2] for part in parts)
+
+
+def without_answers(text, lines):
+    """What the port printed, but for the answers of the steps that it took."""
+    steps, step = [], False
+    for line in text.split(b"\n"):
+        if line.startswith(b"#") or not line:
+            step = step or line + b"\n" == STEP
+        elif line.split(b" ")[0] not in SILENT:
+            steps.append(step)
+            step = False
+    taken = [step and line == "0" for step, line in zip(steps, lines)]
+    return [line for line, gone in zip(lines, taken + [False] * (len(lines) - len(taken))) if not gone]
