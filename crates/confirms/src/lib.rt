@@ -4,7 +4,7 @@ mod step;
 use kinds::Height;
 use kinds::Horizon;
 use kinds::State;
-pub use step::confirm;
+use step::confirm;
 use table::is_pending;
 ghost use mathlib.Core.Path.{_≡_};
 ghost use mathlib.Core.Bool.{true};

@@ -82,7 +82,7 @@ fn record_confirmation(
 }
 
 // Confirms a listed id at h; if its confirmed record holds exactly h already, its pending record goes uncounted.
-pub fn confirm(
+pub(crate) fn confirm(
     state: State,
     confirmed: &mut [f64],
     resolved: &mut [f64],

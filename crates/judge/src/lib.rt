@@ -7,7 +7,7 @@ pub use counts::sound_counts;
 use kinds::Horizon;
 use kinds::State;
 pub use tables::in_range;
-pub use tables::judge_confirmed;
+use tables::judge_confirmed;
 pub use tables::judge_pending;
 ghost use mathlib.Core.Path.{_≡_};
 ghost use Rattle.rules.specs.Board.{board-of};

@@ -85,7 +85,7 @@ pub fn judge_pending(table: &[u8], used: usize, on: Horizon) -> bool
 }
 
 // Whether a confirmed table is sound.
-pub fn judge_confirmed(table: &[u8], used: usize) -> bool
+pub(crate) fn judge_confirmed(table: &[u8], used: usize) -> bool
     ensures { λ r. ⌜ r ≡ sound-confirmed used (now (table .entry)) ⌝ }
 {
     judge_table(table, CONFIRMED_SIZE, MAX_CONFIRMED_RECORDS, used)

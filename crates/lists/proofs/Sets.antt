@@ -1,26 +1,17 @@
--- Lists stored into a list from a place on: one after the other, and element by element. Assumes nothing.
+-- Lists stored into a list from a place on: one after the other. Assumes nothing.
 use mathlib.Core.Path.{_≡_, sym, ap, _∙_}
 use mathlib.Core.List.{List, [], _∷_, _++_}
-use Prim.Native.Nat.{ℕ, suc, _+_, _≤_, _<_}
+use Prim.Native.Nat.{ℕ, suc, _+_, _≤_}
 use native.Mathlib.Nat.{add-zero}
-use native.Mathlib.Numerals.{add-one}
 use native.Mathlib.Omega.{arith}
-use lib.ListN.{length, take, drop, getD, set}
-use lib.Seq.{take-suc, length-take-le, sets, sets-eq}
+use lib.ListN.{length, drop, set}
+use lib.Seq.{sets, sets-eq}
 
 pub sets-append : {A : Type 0} (s : List A) (i : ℕ) (a b : List A) → sets s i (a ++ b) ≡ sets (sets s i a) (i + length a) b
 sets-append {A} s i [] b = ap (λ (k : ℕ). sets s k b) (sym (add-zero i))
 sets-append {A} s i (x ∷ a) b =
     let e : suc i + length a ≡ i + suc (length a) = omega arith in
     sets-append (set s i x) (suc i) a b ∙ ap (λ (k : ℕ). sets (sets (set s i x) (suc i) a) k b) e
-
--- a turn of a loop that stores a list from `at` on
-pub sets-more : {A : Type 0} (s : List A) (at : ℕ) (xs : List A) (i : ℕ) (z : A) → i < length xs → set (sets s at (take i xs)) (at + i) (getD xs i z) ≡ sets s at (take (i + 1) xs)
-sets-more s at xs i z h =
-    ap (λ (k : ℕ). set (sets s at (take i xs)) (at + k) (getD xs i z)) (sym (length-take-le i xs (omega arith)))
-    ∙ sym (sets-append s at (take i xs) (getD xs i z ∷ []))
-    ∙ ap (λ (l : List _). sets s at l) (sym (take-suc xs i z h))
-    ∙ ap (λ (k : ℕ). sets s at (take k xs)) (sym (add-one i))
 
 -- what is put first stands first
 pub put-first : {A : Type 0} (o file : List A) → length file ≤ length o → sets o 0 file ≡ file ++ drop (length file) o

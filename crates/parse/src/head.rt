@@ -86,7 +86,7 @@ fn starts(s: &[u8], at: usize) -> Header
 }
 
 // The header of a history file, up to the buckets.
-pub fn read_header(s: &[u8], version: FileVersion) -> Header
+pub(crate) fn read_header(s: &[u8], version: FileVersion) -> Header
     ensures { λ r. ⌜ header-says r ≡ begun (read-head (version-told version) (now (s .entry))) ⌝ }
 {
     if s.len() < 8 {

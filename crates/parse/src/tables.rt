@@ -71,7 +71,7 @@ fn unreadable() -> Sizes
 }
 
 // Both tables, from `at` on to the end of the file.
-pub fn read_tables(s: &[u8], at: usize, version: FileVersion) -> Sizes
+pub(crate) fn read_tables(s: &[u8], at: usize, version: FileVersion) -> Sizes
     requires { ⌜ at ≤ length (now s) ⌝ }
     ensures { λ r. ⌜ tables-say (version-told version) r (now (s .entry)) at ≡ ended (read-tables (version-told version) (drop at (now (s .entry)))) ⌝ }
 {

@@ -8,7 +8,7 @@ ghost use Rattle.rules.specs.Board.{pending-size};
 ghost use Rattle.format.specs.File.{version-told};
 
 // The number of a version.
-pub fn number_of(version: FileVersion) -> u32
+pub(crate) fn number_of(version: FileVersion) -> u32
     ensures { λ r. ⌜ r ≡ version-told version .number ⌝ }
 {
     match version {
@@ -18,7 +18,7 @@ pub fn number_of(version: FileVersion) -> u32
 }
 
 // How many bytes stand directly after the number.
-pub fn after_len(version: FileVersion) -> usize
+pub(crate) fn after_len(version: FileVersion) -> usize
     ensures { λ r. ⌜ r ≡ length (version-told version .after) ⌝ }
     ensures { λ r. ⌜ r ≤ 4 ⌝ }
 {

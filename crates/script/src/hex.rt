@@ -27,7 +27,7 @@ pub fn is_hex(word: &[u8]) -> bool
 }
 
 // Puts the bytes that the pairs say first into out.
-pub fn unhex(word: &[u8], out: &mut [u8])
+fn unhex(word: &[u8], out: &mut [u8])
     requires { ⌜ (is-hex (now word) ≡ true) × (length (now word) / 2 ≤ length (now out)) ⌝ }
     ensures { λ _. ⌜ now (out .exit) ≡ hex-bytes (now (word .entry)) ++ drop (length (now (word .entry)) / 2) (now (out .entry)) ⌝ }
 {

@@ -10,7 +10,7 @@ pub enum Number {
 }
 
 // The value of a digit, or 16 for any other byte.
-pub fn digit(x: u8) -> u8
+pub(crate) fn digit(x: u8) -> u8
     ensures { λ r. ⌜ (r ≡ digit x) × (r ≤ 16) ⌝ }
 {
     if x < 48 {

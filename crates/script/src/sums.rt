@@ -23,7 +23,7 @@ pub fn double_of(bits: u64) -> f64
 }
 
 // The bits of a double; a NaN has 7ff8000000000000.
-pub fn bits_of(x: f64) -> u64
+fn bits_of(x: f64) -> u64
     ensures { λ r. ⌜ r ≡ toBits binary64 x ⌝ }
 {
     if x == x {

@@ -1,8 +1,8 @@
 // Records by their id: whether there is one, and what comes and goes.
 use crate::Found;
+use crate::entry::height_at;
+use crate::entry::insert_confirmed;
 use crate::find;
-use crate::height_at;
-use crate::insert_confirmed;
 use crate::put_field;
 use crate::remove;
 use kinds::CONFIRMED_SIZE;
