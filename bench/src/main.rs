@@ -1,6 +1,7 @@
 //! One row of the benchmark on one side: `bench original|library ROW count|time|memory`. A row is a call in a state; see `rows.rs`.
 //!
-//! - `count` makes the row's calls once, inside the function `measured`, so that a tool can count the instructions executed there. Prints the number of calls.
+//! - `count` makes the row's calls once, inside the function `measured` and between two calls of getppid, so that a tool can count the instructions executed there.
+//!   Prints the number of calls.
 //! - `time` makes them again and again, each time in the same state. Prints the least nanoseconds a call.
 //! - `memory` prints the bytes that the estimator holds before the calls, and the most that were held beside them during the calls.
 
@@ -39,7 +40,9 @@ fn run<E: Estimator>(row: &str, mode: &str) {
     match mode {
         "count" => {
             let mut work = row.work::<E>(&history);
+            mark();
             measured(&mut *work.calls);
+            mark();
             println!("{}", work.number);
         }
         "time" => println!("{:.1}", least_time::<E>(&row, &history)),
@@ -53,6 +56,11 @@ fn run<E: Estimator>(row: &str, mode: &str) {
         }
         _ => panic!("{mode} is no mode"),
     }
+}
+
+/// A system call that changes nothing: a tool that sees it knows where the calls begin and end.
+fn mark() {
+    std::hint::black_box(std::os::unix::process::parent_id());
 }
 
 /// The calls of a row. A function of its own, under a plain name, for the tools that count what is executed in it.
