@@ -3,10 +3,16 @@ use Rattle.rules.specs.Board.{base}
 use Rattle.rules.proofs.Boards.{base-lawful}
 use Rattle.floats.proofs.Count.{base-factor}
 use Rattle.format.specs.File.{version-1}
+use Rattle.lives.specs.Anew.{CopyPromise}
 use Rattle.lives.specs.Lives.{AsidePromise, LifePromise}
 use Rattle.lives.specs.Contracts.{CodePromise}
+use Rattle.lives.proofs.Anew.{copy-promise}
 use Rattle.lives.proofs.Lives.{aside-promise, life-promise}
 use Rattle.lives.proofs.Link.{code-promise}
+
+-- a copy is lent anew
+pub copies : CopyPromise base
+copies = copy-promise base
 
 -- what changes nothing
 pub asides : AsidePromise version-1 base

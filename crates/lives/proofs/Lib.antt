@@ -1,5 +1,7 @@
 -- Demand 3 in any life.
 
+-- memory that is lent anew
+pub mod Anew
 -- the calls that change nothing change nothing
 pub mod Lives
 -- whatever meets the contracts leads where the definitions lead

@@ -22,7 +22,8 @@ use Rattle.meaning.proofs.Leading.{Comes, comes-start, comes-after}
 use Rattle.meaning.proofs.Meaning.{meant}
 use Rattle.meaning.proofs.Answered.{answers-of}
 use Rattle.meaning.proofs.Success.{success}
-use Rattle.lives.specs.Lives.{Ask, start, change, estimate, write, read, Life, goes-on, begun, next, lives, TypedAsk, TypedAsks, Aside, AsidePromise, Lived, LifePromise}
+use Rattle.lives.proofs.Anew.{comes-anew}
+use Rattle.lives.specs.Lives.{Ask, start, change, estimate, write, read, lend, Life, goes-on, begun, next, lives, TypedAsk, TypedAsks, Fair, AllFair, Aside, AsidePromise, Lived, LifePromise}
 
 -- ---- what changes nothing
 
@@ -52,6 +53,7 @@ aside-promise v k (change c) y e = absurd e
 aside-promise v k (estimate target) y e = refl
 aside-promise v k (write out) y e = ap (λ (s : State). goes-on y s (y .held .memory)) (write-state v k (y .held .state) (y .held .memory) out)
 aside-promise v k (read file) y e = same-life _ _ _ y (read-refused v k (y .held .memory) file) e
+aside-promise v k (lend l) y e = absurd e
 
 -- ---- which run stands
 
@@ -96,18 +98,28 @@ module _ (v : Version) (k : Board) (law : Lawful k) where
   known-change c y t (other e) = other e
   known-change c y t (known m x) = known m (comes-after k law m (y .held) x c t)
 
-  known-next : (q : Ask) (y : Life) → TypedAsk q → Known k y → Known k (next v k q y)
-  unfolding AsidePromise Aside
-  known-next start y t n = known-start y n
-  known-next (change c) y t n = known-change c y t n
-  known-next (estimate target) y t n = subst (Known k) (sym (aside-promise v k (estimate target) y tt)) n
-  known-next (write out) y t n = subst (Known k) (sym (aside-promise v k (write out) y tt)) n
-  known-next (read file) y t n = known-read file y n
+  known-lend : (l : Lent) (y : Life) → TypedAsk (lend l) → Fair k (lend l) y → Known k y → Known k (next v k (lend l) y)
+  unfolding next TypedAsk Fair
+  known-lend l y t f (other e) = other e
+  known-lend l y t f (known m c) = go (y .is-fresh) refl
+    where
+      go : (b : Bool) → y .is-fresh ≡ b → Known k (goes-on y (y .held .state) l)
+      go true e = known l (comes-anew k law m (y .held) c l (f e) (t .0) (t .1))
+      go false e = other e
 
-  known-lives : (qs : List Ask) (y : Life) → TypedAsks qs → Known k y → Known k (lives v k qs y)
-  unfolding lives TypedAsks
-  known-lives [] y t n = n
-  known-lives (q ∷ qs) y t n = known-lives qs (next v k q y) (t .1) (known-next q y (t .0) n)
+  known-next : (q : Ask) (y : Life) → TypedAsk q → Fair k q y → Known k y → Known k (next v k q y)
+  unfolding AsidePromise Aside
+  known-next start y t f n = known-start y n
+  known-next (change c) y t f n = known-change c y t n
+  known-next (estimate target) y t f n = subst (Known k) (sym (aside-promise v k (estimate target) y tt)) n
+  known-next (write out) y t f n = subst (Known k) (sym (aside-promise v k (write out) y tt)) n
+  known-next (read file) y t f n = known-read file y n
+  known-next (lend l) y t f n = known-lend l y t f n
+
+  known-lives : (qs : List Ask) (y : Life) → TypedAsks qs → AllFair v k qs y → Known k y → Known k (lives v k qs y)
+  unfolding lives TypedAsks AllFair
+  known-lives [] y t f n = n
+  known-lives (q ∷ qs) y t f n = known-lives qs (next v k q y) (t .1) (f .1) (known-next q y (t .0) (f .0) n)
 
   lived : Factor (k .decay) → (y : Life) → Known k y → y .is-fresh ≡ true → Rising (y .held .log) → Lived k (y .held)
   lived d y (other e) f r = absurd (true≢false (sym f ∙ e))
@@ -119,4 +131,4 @@ module _ (v : Version) (k : Board) (law : Lawful k) where
 
   pub life-promise : Factor (k .decay) → LifePromise v k
   unfolding LifePromise
-  life-promise d m e qs t f r = lived d (lives v k qs m) (known-lives qs m t (other e)) f r
+  life-promise d m e qs t a f r = lived d (lives v k qs m) (known-lives qs m t a (other e)) f r

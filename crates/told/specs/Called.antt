@@ -7,10 +7,12 @@ use contract.Lifetimes.{Lfts}
 use denote.Ref.{now}
 use Rattle.kinds.specs.Answers.{start-answer, enter-answer, leave-answer, block-answer, read-answer}
 use Rattle.rules.specs.Board.{base}
+use Rattle.rules.specs.Memory.{Lent}
 use Rattle.rules.specs.Slices.{given}
 use Rattle.rules.specs.Calls.{outcome}
 use Rattle.meaning.specs.Runs.{Rising, enter, leave, connect, with-table, noted}
-use Rattle.lives.specs.Lives.{Ask, start, change, estimate, write, read, Life, holding, goes-on, begun, TypedAsks, Lived}
+use Rattle.lives.specs.Anew.{Anew}
+use Rattle.lives.specs.Lives.{Ask, start, change, estimate, write, read, lend, Life, holding, goes-on, begun, TypedAsks, Lived}
 use Rattle.estimator.proofs.new.Reads as new
 use Rattle.estimator.proofs.tx_entered.Reads as tx-entered
 use Rattle.estimator.proofs.tx_left.Reads as tx-left
@@ -20,7 +22,7 @@ use Rattle.estimator.proofs.to_history_bytes.Reads as to-history-bytes
 use Rattle.estimator.proofs.from_history_bytes.Reads as from-history-bytes
 
 -- The calls made in turn, from the life m, and the life that they led to. Each is given the state and the slices that the life has (confirmed, resolved, pending,
--- recent: c d x t), and leads to what it returned (r) and left in them (e).
+-- recent: c d x t), and leads to what it returned (r) and left in them (e). Between two calls memory may be lent anew.
 pub data Called (m : Life) : List Ask → Life → Type 0 where
   nothing : Called m [] m
   started : {qs : List Ask} {y : Life} → Called m qs y → (κs : Lfts 4) (c d x t : _) (r : _) (e : _) → given c d x t ≡ y .held .memory
@@ -49,6 +51,7 @@ pub data Called (m : Life) : List Ask → Life → Type 0 where
       → from-history-bytes.Learnt κs (file, (c, (d, (x, (t, tt))))) r e
       → Called m (qs ++ read (now file) ∷ [])
       (begun false (outcome (read-answer (r .answer)) (r .state) (given (e .1 .0) (e .1 .1 .0) (e .1 .1 .1 .0) (e .1 .1 .1 .1 .0))) y)
+  lent-anew : {qs : List Ask} {y : Life} → Called m qs y → (l : Lent) → (y .is-fresh ≡ true → Anew base (y .held .state) (y .held .memory) l) → Called m (qs ++ lend l ∷ []) (goes-on y (y .held .state) l)
 
 -- Demand 3 of the compiled calls: if the run that stands began with a fresh start and its accepted blocks rise.
 unfoldable pub CalledPromise : Type 0
