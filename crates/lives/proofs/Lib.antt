@@ -14,3 +14,5 @@ pub mod Witness
 pub mod Needed
 -- the customer's incident, as a life
 pub mod Incident
+-- a life with most of what can happen, computed, and the promise of it
+pub mod Eventful

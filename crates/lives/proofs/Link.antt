@@ -13,19 +13,9 @@ use Rattle.format.specs.Calls.{Output}
 use Rattle.meaning.specs.Runs.{Rising, enter, leave, connect, with-table, outcome-of, noted, after}
 use Rattle.lives.specs.Lives.{Ask, start, change, estimate, write, read, lend, Life, holding, goes-on, begun, next, lives, Fair, AllFair, Lived, LifePromise}
 use Rattle.lives.specs.Contracts.{Ran, nothing, started, entered, left, connected, estimated, wrote, was-read, lent-anew, CodePromise}
-use Rattle.lives.proofs.Lives.{life-promise}
+use Rattle.lives.proofs.Lives.{lives-more, fair-more, life-promise}
 
 -- ---- one call more
-
-one-more : (v : Version) (k : Board) (qs : List Ask) (q : Ask) (y : Life) → lives v k (qs ++ q ∷ []) y ≡ next v k q (lives v k qs y)
-unfolding lives
-one-more v k [] q y = refl
-one-more v k (p ∷ qs) q y = one-more v k qs q (next v k p y)
-
-fair-more : (v : Version) (k : Board) (qs : List Ask) (q : Ask) (y : Life) → AllFair v k qs y → Fair k q (lives v k qs y) → AllFair v k (qs ++ q ∷ []) y
-unfolding AllFair lives
-fair-more v k [] q y a f = (f, tt)
-fair-more v k (p ∷ qs) q y a f = (a .0, fair-more v k qs q (next v k p y) (a .1) f)
 
 -- the definitions lead to y, and what was lent was fair
 record Linked (v : Version) (k : Board) (m : Life) (qs : List Ask) (y : Life) : Type 0 where
@@ -33,10 +23,11 @@ record Linked (v : Version) (k : Board) (m : Life) (qs : List Ask) (y : Life) : 
   fair : AllFair v k qs m
 
 then : (v : Version) (k : Board) (m : Life) {qs : List Ask} (q : Ask) {y z : Life} → Linked v k m qs y → Fair k q y → next v k q y ≡ z → Linked v k m (qs ++ q ∷ []) z
+unfolding lives AllFair
 then v k m {qs} q n f e =
     record {
-      leads = one-more v k qs q m ∙ ap (next v k q) (n .leads) ∙ e;
-      fair = fair-more v k qs q m (n .fair) (subst (Fair k q) (sym (n .leads)) f);
+      leads = lives-more v k qs (q ∷ []) m ∙ ap (next v k q) (n .leads) ∙ e;
+      fair = fair-more v k qs (q ∷ []) m (n .fair) (subst (Fair k q) (sym (n .leads)) f, tt);
     }
 
 -- ---- all calls

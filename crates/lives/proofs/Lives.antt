@@ -2,8 +2,8 @@
 -- stands between its calls. Assumes nothing.
 use mathlib.Core.Path.{_≡_, refl, sym, ap, _∙_, subst}
 use mathlib.Core.Bool.{Bool, true, false, not, _&&_, cond, true≢false}
-use mathlib.Core.List.{List, [], _∷_}
-use Prim.Native.Nat.{ℕ}
+use mathlib.Core.List.{List, [], _∷_, _++_}
+use Prim.Native.Nat.{ℕ, _<_}
 use lib.Dec.{ltb, eqb}
 use lib.ListN.{length}
 use Rattle.kinds.specs.declared.State.{State}
@@ -19,11 +19,30 @@ use Rattle.format.specs.Calls.{Output, write-call, read-call}
 use Rattle.format.proofs.Refusals.{read-refused}
 use Rattle.meaning.specs.Runs.{Rising, singly, Call, started}
 use Rattle.meaning.proofs.Leading.{Comes, comes-start, comes-after}
-use Rattle.meaning.proofs.Meaning.{meant}
+use Rattle.meaning.proofs.Meaning.{meant, restated}
+use Rattle.meaning.proofs.Sound.{follows}
 use Rattle.meaning.proofs.Answered.{answers-of}
 use Rattle.meaning.proofs.Success.{success}
-use Rattle.lives.proofs.Anew.{comes-anew}
-use Rattle.lives.specs.Lives.{Ask, start, change, estimate, write, read, lend, Life, goes-on, begun, next, lives, TypedAsk, TypedAsks, Fair, AllFair, Aside, AsidePromise, Lived, LifePromise}
+use Rattle.lives.specs.Anew.{Anew, refitted}
+use Rattle.lives.proofs.Anew.{comes-anew, refit}
+use Rattle.lives.specs.Lives.{Ask, start, change, estimate, write, read, lend, Life, goes-on, begun, next, lives, TypedAsk, TypedAsks, Fair, AllFair, Aside, AsidePromise, RefitPromise, Lived, LifePromise}
+
+-- ---- some calls, and then more
+
+pub lives-more : (v : Version) (k : Board) (qs rs : List Ask) (y : Life) → lives v k (qs ++ rs) y ≡ lives v k rs (lives v k qs y)
+unfolding lives
+lives-more v k [] rs y = refl
+lives-more v k (q ∷ qs) rs y = lives-more v k qs rs (next v k q y)
+
+pub typed-more : (qs rs : List Ask) → TypedAsks qs → TypedAsks rs → TypedAsks (qs ++ rs)
+unfolding TypedAsks
+typed-more [] rs t u = u
+typed-more (q ∷ qs) rs t u = (t .0, typed-more qs rs (t .1) u)
+
+pub fair-more : (v : Version) (k : Board) (qs rs : List Ask) (y : Life) → AllFair v k qs y → AllFair v k rs (lives v k qs y) → AllFair v k (qs ++ rs) y
+unfolding AllFair lives
+fair-more v k [] rs y a b = b
+fair-more v k (q ∷ qs) rs y a b = (a .0, fair-more v k qs rs (next v k q y) (a .1) b)
 
 -- ---- what changes nothing
 
@@ -121,10 +140,19 @@ module _ (v : Version) (k : Board) (law : Lawful k) where
   known-lives [] y t f n = n
   known-lives (q ∷ qs) y t f n = known-lives qs (next v k q y) (t .1) (f .1) (known-next q y (t .0) (f .0) n)
 
+  pub refit-promise : Factor (k .decay) → 0 < k .table .size → RefitPromise v k
+  unfolding RefitPromise Fair
+  refit-promise d pos m e qs t f a b fresh = go (lives v k qs m) (known-lives qs m t f (other e)) fresh
+    where
+      go : (y : Life) → Known k y → y .is-fresh ≡ true → Anew k (y .held .state) (y .held .memory) (refitted k (y .held .state) (y .held .memory) a b)
+      go y (other n) q = absurd (true≢false (sym q ∙ n))
+      go y (known l c) q = refit k pos (y .held .state) (y .held .memory) a b (follows k d law l (y .held) c .sound-is)
+
   lived : Factor (k .decay) → (y : Life) → Known k y → y .is-fresh ≡ true → Rising (y .held .log) → Lived k (y .held)
   lived d y (other e) f r = absurd (true≢false (sym f ∙ e))
   lived d y (known m c) f r = record {
     meant = meant k law m (y .held) c r;
+    restated = restated k law m (y .held) c r;
     answered = answers-of k law d m (y .held) c r;
     success = success k law d (singly (y .held .log)) (y .held) (meant k law m (y .held) c r);
   }

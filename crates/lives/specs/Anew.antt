@@ -2,14 +2,14 @@
 use mathlib.Core.Path.{_≡_}
 use Prim.Native.Nat.{ℕ, _*_, _≤_}
 use mathlib.Core.Bool.{true}
-use mathlib.Core.List.{List}
-use lib.ListN.{take}
+use mathlib.Core.List.{List, _++_}
+use lib.ListN.{take, replicate}
 use lib.Seq.{slice}
 use Rattle.kinds.specs.declared.State.{State}
 use Rattle.rules.specs.Records.{capacity, all-zero}
 use Rattle.rules.specs.Counts.{places-of-counts}
 use Rattle.rules.specs.Board.{Board, confirmed-size, pending-most, confirmed-most}
-use Rattle.rules.specs.Memory.{Lent, sound, view}
+use Rattle.rules.specs.Memory.{Lent, lent, sound, view}
 
 -- In the place of m, with the state s, l is lent. It is sound, and it holds what m holds: the same counts, the same pending and the same confirmed records.
 -- How long it is, where it stands, and what is beyond its capacities is the caller's own affair.
@@ -35,3 +35,11 @@ pub record Copied (k : Board) (s : State) (m l : Lent) : Type 0 where
 -- a copy of sound memory is lent anew
 unfoldable pub CopyPromise : Board → Type 0
 CopyPromise k = (s : State) (m l : Lent) → sound k s m ≡ true → Copied k s m l → Anew k s m l
+
+-- A table that is cut to its used records, with n zero bytes put behind them: so the Rust crate makes room before a call, and takes it back afterwards.
+abbrev pub resized : ℕ → ℕ → List ℕ → ℕ → List ℕ
+resized size used xs n = take (used * size) xs ++ replicate n 0
+
+-- memory with both tables resized
+abbrev pub refitted : Board → State → Lent → ℕ → ℕ → Lent
+refitted k s m a b = lent (m .confirmed) (m .resolved) (resized (k .table .size) (s .pending) (m .pending) a) (resized confirmed-size (s .recent) (m .recent) b)

@@ -17,9 +17,9 @@ use Rattle.format.specs.File.{Version}
 use Rattle.format.specs.Calls.{write-call, read-call}
 use Rattle.meaning.specs.Runs.{begin, Rising, singly, Call, Typed, Held, after}
 use Rattle.meaning.specs.Fates.{Meant}
-use Rattle.meaning.specs.Answered.{Answered}
+use Rattle.meaning.specs.Answered.{Answered, Restated}
 use Rattle.meaning.specs.Success.{Success}
-use Rattle.lives.specs.Anew.{Anew}
+use Rattle.lives.specs.Anew.{Anew, refitted}
 
 -- a public call, or other memory for the calls that follow
 pub data Ask : Type 0 where
@@ -109,12 +109,19 @@ Aside v k (lend l) y = ⊥
 unfoldable pub AsidePromise : Version → Board → Type 0
 AsidePromise v k = (q : Ask) (y : Life) → Aside v k q y → next v k q y ≡ y
 
+-- ---- at any time both tables may be cut to their used records, and grow by zeros
+
+-- in every life that is fair
+unfoldable pub RefitPromise : Version → Board → Type 0
+RefitPromise v k = (m : Life) → m .is-fresh ≡ false → (qs : List Ask) → TypedAsks qs → AllFair v k qs m → (a b : ℕ) → let y = lives v k qs m in Fair k (lend (refitted k (y .held .state) (y .held .memory) a b)) y
+
 -- ---- demand 3, of every life: whatever a caller had before, and whatever was called since, if the run that stands began with a fresh start and its
 -- accepted blocks rise
 
--- what the counts mean, what the calls answer, and that success lies between none and all
+-- what the counts mean, in two sentences of demand 3 once more, what the calls answer, and that success lies between none and all
 pub record Lived (k : Board) (x : Held) : Type 0 where
   pub meant : Meant k (singly (x .log)) x
+  pub restated : Restated k (singly (x .log)) x
   pub answered : Answered k (singly (x .log)) x
   pub success : Success k (x .memory .confirmed) (x .memory .resolved)
 
