@@ -1,5 +1,6 @@
--- A life of which nothing is known but that each call meets its contract, and that memory which is lent anew holds what the run holds: what stands before `≡` is what the contract in crate `estimator` says of the
--- call's result, what stands after it is the definition that it cites. Assumes nothing.
+-- A life of which nothing is known but that each call meets its contract, and that memory which is lent anew holds what the run holds. What stands before `≡` is
+-- what the contract in crate `estimator` says of the call's result (crate `told` shows that it does), what stands after it is the definition that it cites.
+-- Assumes nothing.
 use mathlib.Core.Path.{_≡_}
 use Prim.Native.Nat.{ℕ}
 use mathlib.Core.Bool.{true, false}

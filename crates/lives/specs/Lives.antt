@@ -1,7 +1,6 @@
--- The life of a caller: every public call, in any order, each given the state and the slices as the call before left them, or other memory that was lent anew
--- between two calls. "A run begins with a fresh
--- start or an accepted reading of any kind, and each later accepted one begins another run. .. a reading or a fresh start that is refused gives the run
--- no state, and the run goes on with the state it had before." Assumes nothing.
+-- The life of a caller: every public call, in any order, each given the state and the slices as the call before left them, or other memory that is lent anew
+-- between two calls. "A run begins with a fresh start or an accepted reading of any kind, and each later accepted one begins another run. .. a reading or a
+-- fresh start that is refused gives the run no state, and the run goes on with the state it had before." Assumes nothing.
 use mathlib.Core.Path.{_≡_}
 use Prim.Native.Nat.{ℕ}
 use mathlib.Core.Bool.{Bool, true, false, cond}
@@ -28,7 +27,7 @@ pub data Ask : Type 0 where
   estimate : Blocks → Ask  -- target
   write : List ℕ → Ask  -- the output as it is lent
   read : List ℕ → Ask  -- the file's bytes
-  lend : Lent → Ask
+  lend : Lent → Ask  -- what is lent from here on
 
 -- what a caller has, and whether the run that stands began with a fresh start
 pub record Life : Type 0 where
@@ -79,8 +78,8 @@ unfoldable pub TypedAsks : List Ask → Type 0
 TypedAsks [] = Unit {0}
 TypedAsks (q ∷ qs) = TypedAsk q × TypedAsks qs
 
--- What is asked of a caller: other memory that is lent in a run which began with a fresh start holds what that run holds. (One who lends anything else there
--- has left the run. What is said below is said again of the life from there on, since it may begin with any memory.)
+-- What is asked of a caller: other memory that is lent in a run which began with a fresh start holds what the run holds. (One who lends anything else there has
+-- left the run: what is promised below holds of the life from there on, since a life may begin with any memory.)
 unfoldable pub Fair : Board → Ask → Life → Type 0
 Fair k start y = Unit {0}
 Fair k (change c) y = Unit {0}
