@@ -1,5 +1,7 @@
 -- Demand 3 in any life.
 
+-- memory that is lent anew
+pub mod Anew
 -- the calls that change nothing change nothing
 pub mod Lives
 -- whatever meets the contracts leads where the definitions lead
@@ -12,3 +14,5 @@ pub mod Witness
 pub mod Needed
 -- the customer's incident, as a life
 pub mod Incident
+-- a life with most of what can happen, computed, and the promise of it
+pub mod Eventful

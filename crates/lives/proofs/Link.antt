@@ -11,35 +11,46 @@ use Rattle.floats.proofs.Count.{Factor}
 use Rattle.format.specs.File.{Version}
 use Rattle.format.specs.Calls.{Output}
 use Rattle.meaning.specs.Runs.{Rising, enter, leave, connect, with-table, outcome-of, noted, after}
-use Rattle.lives.specs.Lives.{Ask, start, change, estimate, write, read, Life, holding, goes-on, begun, next, lives, Lived, LifePromise}
-use Rattle.lives.specs.Contracts.{Ran, nothing, started, entered, left, connected, estimated, wrote, was-read, CodePromise}
-use Rattle.lives.proofs.Lives.{life-promise}
+use Rattle.lives.specs.Lives.{Ask, start, change, estimate, write, read, lend, Life, holding, goes-on, begun, next, lives, Fair, AllFair, Lived, LifePromise}
+use Rattle.lives.specs.Contracts.{Ran, nothing, started, entered, left, connected, estimated, wrote, was-read, lent-anew, CodePromise}
+use Rattle.lives.proofs.Lives.{lives-more, fair-more, life-promise}
 
--- one call more
-one-more : (v : Version) (k : Board) (qs : List Ask) (q : Ask) (y : Life) → lives v k (qs ++ q ∷ []) y ≡ next v k q (lives v k qs y)
-unfolding lives
-one-more v k [] q y = refl
-one-more v k (p ∷ qs) q y = one-more v k qs q (next v k p y)
+-- ---- one call more
 
-then : (v : Version) (k : Board) (m : Life) (qs : List Ask) (q : Ask) (y z : Life) → lives v k qs m ≡ y → next v k q y ≡ z → lives v k (qs ++ q ∷ []) m ≡ z
-then v k m qs q y z e f = one-more v k qs q m ∙ ap (next v k q) e ∙ f
+-- the definitions lead to y, and what was lent was fair
+record Linked (v : Version) (k : Board) (m : Life) (qs : List Ask) (y : Life) : Type 0 where
+  leads : lives v k qs m ≡ y
+  fair : AllFair v k qs m
 
-pub link : (v : Version) (k : Board) (m : Life) {qs : List Ask} {y : Life} → Ran v k m qs y → lives v k qs m ≡ y
-unfolding lives next after outcome-of
-link v k m nothing = refl
-link v k m (started {qs} {y} p r l e) = then v k m qs start y _ (link v k m p) (ap (λ (o : Outcome Lent). begun true o y) (sym e))
+then : (v : Version) (k : Board) (m : Life) {qs : List Ask} (q : Ask) {y z : Life} → Linked v k m qs y → Fair k q y → next v k q y ≡ z → Linked v k m (qs ++ q ∷ []) z
+unfolding lives AllFair
+then v k m {qs} q n f e =
+    record {
+      leads = lives-more v k qs (q ∷ []) m ∙ ap (next v k q) (n .leads) ∙ e;
+      fair = fair-more v k qs (q ∷ []) m (n .fair) (subst (Fair k q) (sym (n .leads)) f, tt);
+    }
+
+-- ---- all calls
+
+link : (v : Version) (k : Board) (m : Life) {qs : List Ask} {y : Life} → Ran v k m qs y → Linked v k m qs y
+unfolding lives next after outcome-of AllFair Fair
+link v k m nothing = record { leads = refl; fair = tt }
+link v k m (started {qs} {y} p r l e) = then v k m start (link v k m p) tt (ap (λ (o : Outcome Lent). begun true o y) (sym e))
 link v k m (entered {qs} {y} p i rate h r pending e) =
-    then v k m qs (change (enter i rate h)) y _ (link v k m p)
+    then v k m (change (enter i rate h)) (link v k m p) tt
     (ap (λ (o : Outcome (List ℕ)). holding y (noted (enter i rate h) (with-table (y .held .memory) o) (y .held .log))) (sym e))
 link v k m (left {qs} {y} p i r pending e) =
-    then v k m qs (change (leave i)) y _ (link v k m p)
+    then v k m (change (leave i)) (link v k m p) tt
     (ap (λ (o : Outcome (List ℕ)). holding y (noted (leave i) (with-table (y .held .memory) o) (y .held .log))) (sym e))
 link v k m (connected {qs} {y} p ids h r l e) =
-    then v k m qs (change (connect ids h)) y _ (link v k m p) (ap (λ (o : Outcome Lent). holding y (noted (connect ids h) o (y .held .log))) (sym e))
-link v k m (estimated {qs} {y} p target r e) = then v k m qs (estimate target) y y (link v k m p) refl
-link v k m (wrote {qs} {y} p out r rest e) = then v k m qs (write out) y _ (link v k m p) (ap (λ (o : Outcome Output). goes-on y (o .state) (y .held .memory)) (sym e))
-link v k m (was-read {qs} {y} p file r l e) = then v k m qs (read file) y _ (link v k m p) (ap (λ (o : Outcome Lent). begun false o y) (sym e))
+    then v k m (change (connect ids h)) (link v k m p) tt (ap (λ (o : Outcome Lent). holding y (noted (connect ids h) o (y .held .log))) (sym e))
+link v k m (estimated p target r e) = then v k m (estimate target) (link v k m p) tt refl
+link v k m (wrote {qs} {y} p out r rest e) = then v k m (write out) (link v k m p) tt (ap (λ (o : Outcome Output). goes-on y (o .state) (y .held .memory)) (sym e))
+link v k m (was-read {qs} {y} p file r l e) = then v k m (read file) (link v k m p) tt (ap (λ (o : Outcome Lent). begun false o y) (sym e))
+link v k m (lent-anew p l a) = then v k m (lend l) (link v k m p) a refl
 
 pub code-promise : (v : Version) (k : Board) → Lawful k → Factor (k .decay) → CodePromise v k
 unfolding CodePromise LifePromise
-code-promise v k law d m e qs y p t f r = subst (λ (z : Life). z .is-fresh ≡ true → Rising (z .held .log) → Lived k (z .held)) (link v k m p) (life-promise v k law d m e qs t) f r
+code-promise v k law d m e qs y p t f r =
+    let n = link v k m p in
+    subst (λ (z : Life). z .is-fresh ≡ true → Rising (z .held .log) → Lived k (z .held)) (n .leads) (life-promise v k law d m e qs t (n .fair)) f r

@@ -2,8 +2,8 @@
 -- stands between its calls. Assumes nothing.
 use mathlib.Core.Path.{_≡_, refl, sym, ap, _∙_, subst}
 use mathlib.Core.Bool.{Bool, true, false, not, _&&_, cond, true≢false}
-use mathlib.Core.List.{List, [], _∷_}
-use Prim.Native.Nat.{ℕ}
+use mathlib.Core.List.{List, [], _∷_, _++_}
+use Prim.Native.Nat.{ℕ, _<_}
 use lib.Dec.{ltb, eqb}
 use lib.ListN.{length}
 use Rattle.kinds.specs.declared.State.{State}
@@ -19,10 +19,30 @@ use Rattle.format.specs.Calls.{Output, write-call, read-call}
 use Rattle.format.proofs.Refusals.{read-refused}
 use Rattle.meaning.specs.Runs.{Rising, singly, Call, started}
 use Rattle.meaning.proofs.Leading.{Comes, comes-start, comes-after}
-use Rattle.meaning.proofs.Meaning.{meant}
+use Rattle.meaning.proofs.Meaning.{meant, restated}
+use Rattle.meaning.proofs.Sound.{follows}
 use Rattle.meaning.proofs.Answered.{answers-of}
 use Rattle.meaning.proofs.Success.{success}
-use Rattle.lives.specs.Lives.{Ask, start, change, estimate, write, read, Life, goes-on, begun, next, lives, TypedAsk, TypedAsks, Aside, AsidePromise, Lived, LifePromise}
+use Rattle.lives.specs.Anew.{Anew, refitted}
+use Rattle.lives.proofs.Anew.{comes-anew, refit}
+use Rattle.lives.specs.Lives.{Ask, start, change, estimate, write, read, lend, Life, goes-on, begun, next, lives, TypedAsk, TypedAsks, Fair, AllFair, Aside, AsidePromise, RefitPromise, Lived, LifePromise}
+
+-- ---- some calls, and then more
+
+pub lives-more : (v : Version) (k : Board) (qs rs : List Ask) (y : Life) → lives v k (qs ++ rs) y ≡ lives v k rs (lives v k qs y)
+unfolding lives
+lives-more v k [] rs y = refl
+lives-more v k (q ∷ qs) rs y = lives-more v k qs rs (next v k q y)
+
+pub typed-more : (qs rs : List Ask) → TypedAsks qs → TypedAsks rs → TypedAsks (qs ++ rs)
+unfolding TypedAsks
+typed-more [] rs t u = u
+typed-more (q ∷ qs) rs t u = (t .0, typed-more qs rs (t .1) u)
+
+pub fair-more : (v : Version) (k : Board) (qs rs : List Ask) (y : Life) → AllFair v k qs y → AllFair v k rs (lives v k qs y) → AllFair v k (qs ++ rs) y
+unfolding AllFair lives
+fair-more v k [] rs y a b = b
+fair-more v k (q ∷ qs) rs y a b = (a .0, fair-more v k qs rs (next v k q y) (a .1) b)
 
 -- ---- what changes nothing
 
@@ -52,6 +72,7 @@ aside-promise v k (change c) y e = absurd e
 aside-promise v k (estimate target) y e = refl
 aside-promise v k (write out) y e = ap (λ (s : State). goes-on y s (y .held .memory)) (write-state v k (y .held .state) (y .held .memory) out)
 aside-promise v k (read file) y e = same-life _ _ _ y (read-refused v k (y .held .memory) file) e
+aside-promise v k (lend l) y e = absurd e
 
 -- ---- which run stands
 
@@ -96,27 +117,46 @@ module _ (v : Version) (k : Board) (law : Lawful k) where
   known-change c y t (other e) = other e
   known-change c y t (known m x) = known m (comes-after k law m (y .held) x c t)
 
-  known-next : (q : Ask) (y : Life) → TypedAsk q → Known k y → Known k (next v k q y)
-  unfolding AsidePromise Aside
-  known-next start y t n = known-start y n
-  known-next (change c) y t n = known-change c y t n
-  known-next (estimate target) y t n = subst (Known k) (sym (aside-promise v k (estimate target) y tt)) n
-  known-next (write out) y t n = subst (Known k) (sym (aside-promise v k (write out) y tt)) n
-  known-next (read file) y t n = known-read file y n
+  known-lend : (l : Lent) (y : Life) → TypedAsk (lend l) → Fair k (lend l) y → Known k y → Known k (next v k (lend l) y)
+  unfolding next TypedAsk Fair
+  known-lend l y t f (other e) = other e
+  known-lend l y t f (known m c) = go (y .is-fresh) refl
+    where
+      go : (b : Bool) → y .is-fresh ≡ b → Known k (goes-on y (y .held .state) l)
+      go true e = known l (comes-anew k law m (y .held) c l (f e) (t .0) (t .1))
+      go false e = other e
 
-  known-lives : (qs : List Ask) (y : Life) → TypedAsks qs → Known k y → Known k (lives v k qs y)
-  unfolding lives TypedAsks
-  known-lives [] y t n = n
-  known-lives (q ∷ qs) y t n = known-lives qs (next v k q y) (t .1) (known-next q y (t .0) n)
+  known-next : (q : Ask) (y : Life) → TypedAsk q → Fair k q y → Known k y → Known k (next v k q y)
+  unfolding AsidePromise Aside
+  known-next start y t f n = known-start y n
+  known-next (change c) y t f n = known-change c y t n
+  known-next (estimate target) y t f n = subst (Known k) (sym (aside-promise v k (estimate target) y tt)) n
+  known-next (write out) y t f n = subst (Known k) (sym (aside-promise v k (write out) y tt)) n
+  known-next (read file) y t f n = known-read file y n
+  known-next (lend l) y t f n = known-lend l y t f n
+
+  known-lives : (qs : List Ask) (y : Life) → TypedAsks qs → AllFair v k qs y → Known k y → Known k (lives v k qs y)
+  unfolding lives TypedAsks AllFair
+  known-lives [] y t f n = n
+  known-lives (q ∷ qs) y t f n = known-lives qs (next v k q y) (t .1) (f .1) (known-next q y (t .0) (f .0) n)
+
+  pub refit-promise : Factor (k .decay) → 0 < k .table .size → RefitPromise v k
+  unfolding RefitPromise Fair
+  refit-promise d pos m e qs t f a b fresh = go (lives v k qs m) (known-lives qs m t f (other e)) fresh
+    where
+      go : (y : Life) → Known k y → y .is-fresh ≡ true → Anew k (y .held .state) (y .held .memory) (refitted k (y .held .state) (y .held .memory) a b)
+      go y (other n) q = absurd (true≢false (sym q ∙ n))
+      go y (known l c) q = refit k pos (y .held .state) (y .held .memory) a b (follows k d law l (y .held) c .sound-is)
 
   lived : Factor (k .decay) → (y : Life) → Known k y → y .is-fresh ≡ true → Rising (y .held .log) → Lived k (y .held)
   lived d y (other e) f r = absurd (true≢false (sym f ∙ e))
   lived d y (known m c) f r = record {
     meant = meant k law m (y .held) c r;
+    restated = restated k law m (y .held) c r;
     answered = answers-of k law d m (y .held) c r;
     success = success k law d (singly (y .held .log)) (y .held) (meant k law m (y .held) c r);
   }
 
   pub life-promise : Factor (k .decay) → LifePromise v k
   unfolding LifePromise
-  life-promise d m e qs t f r = lived d (lives v k qs m) (known-lives qs m t (other e)) f r
+  life-promise d m e qs t a f r = lived d (lives v k qs m) (known-lives qs m t a (other e)) f r

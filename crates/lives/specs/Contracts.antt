@@ -1,5 +1,6 @@
--- A life of which nothing is known but that each call meets its contract: what stands before `≡` is what the contract in crate `estimator` says of the
--- call's result, what stands after it is the definition that it cites. Assumes nothing.
+-- A life of which nothing is known but that each call meets its contract, and that memory which is lent anew holds what the run holds. What stands before `≡` is
+-- what the contract in crate `estimator` says of the call's result (crate `told` shows that it does), what stands after it is the definition that it cites.
+-- Assumes nothing.
 use mathlib.Core.Path.{_≡_}
 use Prim.Native.Nat.{ℕ}
 use mathlib.Core.Bool.{true, false}
@@ -22,7 +23,8 @@ use Rattle.rules.specs.Calls.{outcome, start-call, enter-call, leave-call, bloc
 use Rattle.format.specs.File.{Version}
 use Rattle.format.specs.Calls.{output, write-call, read-call}
 use Rattle.meaning.specs.Runs.{Rising, enter, leave, connect, with-table, noted}
-use Rattle.lives.specs.Lives.{Ask, start, change, estimate, write, read, Life, holding, goes-on, begun, TypedAsks, Lived}
+use Rattle.lives.specs.Anew.{Anew}
+use Rattle.lives.specs.Lives.{Ask, start, change, estimate, write, read, lend, Life, holding, goes-on, begun, TypedAsks, Lived}
 
 -- The calls asked in turn, from the life m, and the life that they led to.
 pub data Ran (v : Version) (k : Board) (m : Life) : List Ask → Life → Type 0 where
@@ -50,6 +52,7 @@ pub data Ran (v : Version) (k : Board) (m : Life) : List Ask → Life → Type 0
   was-read : {qs : List Ask} {y : Life} → Ran v k m qs y → (file : List ℕ) (r : Reading) (l : Lent)
       → outcome (read-answer (r .answer)) (r .state) l ≡ read-call v k (y .held .memory) file
       → Ran v k m (qs ++ read file ∷ []) (begun false (outcome (read-answer (r .answer)) (r .state) l) y)
+  lent-anew : {qs : List Ask} {y : Life} → Ran v k m qs y → (l : Lent) → (y .is-fresh ≡ true → Anew k (y .held .state) (y .held .memory) l) → Ran v k m (qs ++ lend l ∷ []) (goes-on y (y .held .state) l)
 
 -- Demand 3 of whatever meets the contracts: if the run that stands began with a fresh start and its accepted blocks rise.
 unfoldable pub CodePromise : Version → Board → Type 0

@@ -58,7 +58,7 @@ module _ (k : Board) (law : Lawful k) (m : Lent) (x : Held) (c : Comes k m x) wh
       last-is = ap (λ (y : Held). y .state .last) (c .is) ∙ ap (λ (e : Estimator). e .last) (run-singly k (x .log) r) ∙ last-singles k l;
     }
 
-    restated : Restated k l x
+    pub restated : Restated k l x
     restated = record {
       once = λ which b d low high. once which k b d l (climbs-singly (x .log) r);
       gone = λ g ids h q.

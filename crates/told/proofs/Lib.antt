@@ -1,0 +1,2 @@
+-- What a caller learns of the compiled calls is what demand 3 asks for.
+pub mod Told
