@@ -20,7 +20,7 @@ use Rattle.meaning.specs.Runs.{begin, Rising, singly, Call, Held, after-all, st
 use Rattle.meaning.specs.Fates.{Kind, in-resolved, in-confirmed, count-of, Meant}
 use Rattle.meaning.specs.Success.{sums-at, RatioWithin, Success}
 use Rattle.meaning.proofs.Computed.{compute-runs, compute-logs}
-use Rattle.lives.proofs.Witness.{dirty, enters, connects}
+use Rattle.witness.proofs.Dirty.{dirty, enters, connects}
 
 -- both counts of a kind for bucket 33 and column c, as their patterns: what is stored, and what the log makes
 abbrev stored-in : Kind → Held → ℕ → ℕ

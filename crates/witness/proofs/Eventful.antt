@@ -21,11 +21,11 @@ use Rattle.format.specs.File.{version-1}
 use Rattle.meaning.specs.Runs.{arrival, removal, block, Log, begin, _▸_, Rising, last-of, Above, singly, Typed, leave}
 use Rattle.meaning.specs.Fates.{Kind, in-resolved, in-confirmed, count-of}
 use Rattle.meaning.proofs.Computed.{compute-runs, compute-logs}
 use Rattle.lives.specs.Anew.{refitted}
 use Rattle.lives.specs.Lives.{Ask, start, change, lend, Life, begun, next, lives, TypedAsk, TypedAsks, Fair, AllFair, RefitPromise, Lived, LifePromise}
 use Rattle.lives.proofs.Lives.{lives-more, typed-more, fair-more}
 use Rattle.lives.proofs.Base.{refits, lives as promise}
-use Rattle.lives.proofs.Witness.{dirty, enters, connects}
+use Rattle.witness.proofs.Dirty.{dirty, enters, connects}
 
 -- ---- what is asked
 

@@ -18,9 +18,9 @@ use Rattle.format.specs.Calls.{has-room, taken-in, read-call}
 use Rattle.format.proofs.Back.{Writable, version-1-lawful, written-is-read}
 use Rattle.meaning.specs.Runs.{begin, singly, Call, Held, after, after-all, started}
 use Rattle.meaning.specs.Fates.{Meant}
-use Rattle.lives.proofs.Witness.{dirty}
-use Rattle.lives.proofs.Needed.{restored, next-block, incident, incident-is-not-meant as not-meant}
+use Rattle.witness.proofs.Dirty.{dirty}
+use Rattle.witness.proofs.Needed.{restored, next-block, incident, incident-is-not-meant as not-meant}
 use Rattle.lives.specs.Lives.{Ask, change, read, Life, begun, next, lives}
 
 -- an estimator that is empty but for its last height
 abbrev old : Estimator
