@@ -20,7 +20,7 @@ ghost use mathlib.Core.Path.{_≡_};
 ghost use mathlib.Core.List.{[]};
 ghost use Rattle.rules.specs.Ladder.{bucket-index};
 ghost use Rattle.rules.specs.Slices.{before, after};
-ghost use Rattle.izrughem.specs.Calls.{seen, izr-new, izr-tx-entered, izr-tx-left, izr-block-connected, izr-estimate, izr-to-history-bytes, izr-from-history-bytes};
+ghost use Rattle.boundary.specs.Calls.{seen, izr-new, izr-tx-entered, izr-tx-left, izr-block-connected, izr-estimate, izr-to-history-bytes, izr-from-history-bytes};
 
 // A fresh start.
 #[no_mangle]
