@@ -1,21 +1,37 @@
 /*
  * Izrughem: a bitcoin fee estimator over memory that the caller lends. C11.
  *
- * Every slice is a pointer and the number of its elements. The pointer is never null, is aligned for its elements, and has that many elements behind it
- * (with 0 elements any aligned pointer but null will do); the slices of one call do not overlap. Nothing is kept between calls: an estimator is its state
- * (four words) and its four lent slices, and a call is given all that the call before left. Calls on different estimators may run at the same time.
- * No call allocates, fails or waits.
+ * Version. izr_version() is the version of this interface that the library has, IZR_VERSION the one that this header describes; where they differ, call
+ * nothing else. It moves by one where the words of the state, the bytes of a record, the parameters of a function or its answers change. A function that
+ * is only added does not move it.
  *
- *   confirmed, resolved   counts, IZR_COUNTS doubles each
+ * Slices. Every slice is a pointer and the number of its elements. The pointer is aligned for its elements and has that many of them behind it; where the
+ * number is 0 it may be null. The slices of one call do not overlap.
+ *
+ * An estimator is its state (four words) and its four lent slices. Nothing is kept between calls: a call is given all that the call before left. No call
+ * allocates, fails or waits.
+ *
+ *   confirmed, resolved   counts, IZR_COUNTS doubles each: bucket b, from 0 to 141, and target t, from 1 to 25, at b * 25 + t - 1
  *   pending               the table of pending transactions, IZR_PENDING_SIZE bytes a record, at most IZR_MOST_PENDING records
  *   recent                the table of confirmed transactions of recent blocks, IZR_RECENT_SIZE bytes a record, at most IZR_MOST_RECENT records
- *   state                 IZR_STATE_WORDS words: 1 or 0 for whether there is a last height, the height (0 where there is none), and how many pending and
- *                         how many confirmed records are used
+ *   state                 IZR_STATE_WORDS words: [0] 1 or 0 for whether there is a last height, [1] the last height (0 where there is none), [2] how many
+ *                         pending and [3] how many confirmed records are used
  *
- * A table has room for as many records as its slice holds, up to its most. What is lent beyond all that is neither read nor written.
+ * The records, numbers little-endian and of 32 bits, no byte between them:
+ *
+ *   pending, 44 bytes     at 0 the id, 32 bytes; at 32 the bucket; at 36 the height of entry; at 40 the targets, from the first, that are counted as
+ *                         resolved already (0 to 25)
+ *   recent, 36 bytes      at 0 the id, 32 bytes; at 32 the height of the block that confirmed it
+ *
+ * Used records stand first, their ids rising strictly (as unsigned bytes from the first); the places after them are zero. A table has room for as many
+ * records as its slice holds, up to its most. What is lent beyond all that is neither read nor written.
+ *
+ * Threads. The library has no memory of its own, so calls on different estimators may run at the same time. On one estimator izr_estimate and
+ * izr_to_history_bytes only read: any number of them may run at the same time, each with a carried and an out of its own. Every other call that is lent an
+ * estimator, or a part of it, changes it, and runs while no other call does on that estimator. izr_version and izr_bucket_index_for_rate are lent nothing.
  *
  * Each call answers one of the numbers below, and its comment says which: IZR_DONE, or a refusal. A refused call changes nothing that it was lent, but for
- * carried[0] where its comment says so. Where more than one refusal would be right, the one that is named first is answered.
+ * carried[0] on IZR_UNKNOWN_VERSION and IZR_SHORT_OUTPUT. Where more than one refusal would be right, the one that is named first is answered.
  *
  * IZR_DAMAGED tells that the memory is not an estimator's. Each call judges what it uses: a count slice shorter than IZR_COUNTS; a count that is not finite
  * or is below 0; more records used than there is room for; ids that do not rise strictly; a bucket above 141; a resolved-through above 25; an unused place
@@ -33,6 +49,7 @@ extern "C" {
 #endif
 
 enum {
+    IZR_VERSION = 1,
     IZR_COUNTS = 3550,
     IZR_PENDING_SIZE = 44,
     IZR_RECENT_SIZE = 36,
@@ -62,6 +79,9 @@ enum {
     IZR_NO_ROOM = 11,
     IZR_SHORT_OUTPUT = 12
 };
+
+/* The version of this interface that the library has. */
+uint32_t izr_version(void);
 
 /*
  * A fresh start: counts become 0.0, both tables are cleared, and there is no last height. The memory may hold anything before.
@@ -95,13 +115,15 @@ uint32_t izr_tx_left(uint64_t *state, size_t state_len, uint8_t *pending, size_t
 /*
  * A block is connected, with the ids that it confirms, IZR_ID_SIZE bytes each, one after the other. It judges the state and all memory.
  *
- *   IZR_DONE
+ *   IZR_DONE             state[1] is the last height: the height of this block, or, where that is not above the last one, the last one as it was
  *   IZR_DAMAGED
  *   IZR_BAD_LIST         the length of ids is not a multiple of IZR_ID_SIZE
  *   IZR_GAP_TOO_WIDE     the height is more than IZR_WIDEST_GAP above the last one. Blocks of no ids, at most that far apart, lead over a wider gap with
- *                        the same result
+ *                        the same result. They are calls of their own: what they have done stays, also where the block itself is then refused
  *   IZR_CONFIRMED_FULL   the confirmed records, and the listings of ids that are pending (each listing counted), are more than the table of confirmed
- *                        records has room for. Lend a longer one, with zeros behind the old bytes, and call again
+ *                        records has room for. Lend a longer one, with zeros behind the old bytes, and call again. If it has room for IZR_MOST_RECENT
+ *                        already: where there is a last height, and height - 1 is above it, a block of no ids at height - 1 lets go of old records, with
+ *                        the same result
  */
 uint32_t izr_block_connected(uint64_t *state, size_t state_len, double *confirmed, size_t confirmed_len, double *resolved, size_t resolved_len,
                              uint8_t *pending, size_t pending_len, uint8_t *recent, size_t recent_len, const uint8_t *ids, size_t ids_len,

@@ -106,7 +106,7 @@ impl Row {
             let refused = match call {
                 Call::Enter => library.try_tx_entered(there, 5_000, HEIGHT).is_err(),
                 Call::Leave => library.try_tx_left(&izrughem::Txid([0; 32])).is_err(),
-                Call::Block(_) | Call::Gap(_) => library.try_block_connected(&[], HEIGHT + izrughem::WIDEST_GAP + 1).is_err(),
+                Call::Block(_) | Call::Gap(_) => library.try_block_step(&[], HEIGHT + izrughem::WIDEST_GAP + 1).is_err(),
                 Call::Estimate(targets) => (0..targets).all(|_| library.try_estimate(black_box(0)) == Ok(None)),
                 Call::Write => library.try_to_history_bytes(&mut []).is_err(),
                 Call::Read { .. } => unreachable!("reading judges the file, which is its work"),

@@ -103,6 +103,7 @@ int main(void)
     uint8_t ids[5][IZR_ID_SIZE];
     uint64_t carried[1] = {0};
 
+    check(izr_version() == IZR_VERSION, "the library has the header's version");
     for (size_t i = 0; i < 5; i++)
         memset(ids[i], (int)i + 1, IZR_ID_SIZE);
 
@@ -117,6 +118,7 @@ int main(void)
     expect(leave(&first, ids[4]), IZR_ABSENT, "the fifth leaves again");
     expect(block(&first, ids[0], 2 * IZR_ID_SIZE + 1, 101), IZR_BAD_LIST, "a block with a byte too many");
     expect(block(&first, ids[0], 2 * IZR_ID_SIZE, 101), IZR_DONE, "a block with the first and the second");
+    check(first.state[0] == 1 && first.state[1] == 101, "the last height is the block's");
     expect(block(&first, ids[0], 0, 101 + IZR_WIDEST_GAP + 1), IZR_GAP_TOO_WIDE, "a block too far above");
 
     size_t len = save(&first, file, FILE_SIZE);

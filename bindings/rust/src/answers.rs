@@ -63,9 +63,9 @@ pub enum Refusal {
     Absent,
     /// The list of ids is not a multiple of 32 bytes. A list of [`Txid`] always is.
     BadList,
-    /// The height is more than [`WIDEST_GAP`](crate::WIDEST_GAP) above the last one.
+    /// The height is more than [`WIDEST_GAP`](crate::WIDEST_GAP) above the last one. Only [`try_block_step`](crate::FeeEstimator::try_block_step) answers it.
     GapTooWide,
-    /// The block could leave more than 1,000,000 confirmed records.
+    /// There would be more than 1,000,000 confirmed records, each listing of a pending transaction counted as one.
     ConfirmedFull,
     /// The first eight bytes are not those of a history.
     BadMagic,

@@ -20,7 +20,9 @@
 //! # Ok::<(), izrughem::HistoryReject>(())
 //! ```
 //!
-//! Each method has a neighbour, `try_..`, that tells why it did nothing, where it did nothing:
+//! Each method has a neighbour, `try_..`, that tells why it did nothing, where it did nothing. An entry of a pending transaction or beyond 10,000, and the leave of
+//! one that is not pending, are ignored by the original too; a block that is refused is one that the original takes
+//! ([`try_block_connected`](FeeEstimator::try_block_connected)). So a node that must not lose a block looks at that answer:
 //!
 //! ```
 //! use izrughem::{FeeEstimator, Refusal, Txid};
@@ -31,6 +33,10 @@
 //! assert_eq!(estimator.try_tx_entered(id, 2_000, 100), Err(Refusal::AlreadyPending));
 //! assert_eq!(estimator.try_tx_left(&id), Ok(()));
 //! assert_eq!(estimator.try_tx_left(&id), Err(Refusal::Absent));
+//! if let Err(refusal) = estimator.try_block_connected(&[id], 101) {
+//!     eprintln!("block 101 is lost: {refusal}");
+//! }
+//! assert_eq!(estimator.last_height(), Some(101));
 //! ```
 
 #![deny(unsafe_code)]
@@ -49,6 +55,8 @@ use std::fmt;
 /// The widest step from one height to the next that one call of the library makes.
 pub const WIDEST_GAP: u32 = 4_096;
 
+/// The version of the library's interface that this crate is for: `IZR_VERSION` of `include/izrughem.h`.
+const VERSION: u32 = 1;
 /// 142 buckets of 25 targets.
 const COUNTS: usize = 3_550;
 /// The bytes of a pending record, and how many there may be.
@@ -73,6 +81,9 @@ pub struct FeeEstimator {
 
 impl FeeEstimator {
     /// An estimator that has seen nothing.
+    ///
+    /// # Panics
+    /// Where the library that was linked is of another version than this crate.
     #[must_use]
     pub fn new() -> Self {
         let mut fresh = Self::lending(0, 0);
@@ -82,8 +93,9 @@ impl FeeEstimator {
         fresh
     }
 
-    /// Zeros in the place of counts, and tables with room for so many records.
+    /// Zeros in the place of counts, and tables with room for so many records. Every estimator begins here, so the library's version is looked at here.
     fn lending(pending: usize, recent: usize) -> Self {
+        expect_version(raw::version());
         Self {
             state: [0; 4],
             confirmed: vec![0.0; COUNTS].into(),
@@ -133,22 +145,48 @@ impl FeeEstimator {
 
     /// A block is connected at a height, and confirms the listed transactions. Heights that were skipped are gone through first, however many they are.
     ///
-    /// A block that could leave more than 1,000,000 confirmed records is ignored. (The original goes on, and then writes a history that it does not read
-    /// again. It takes over 100 blocks of 10,000 pending transactions each that are less than 26 heights apart.)
+    /// Where [`try_block_connected`](Self::try_block_connected) is refused the block is ignored, and the original goes on. It is the one call here that can lose
+    /// what the original keeps.
     pub fn block_connected(&mut self, confirmed_txids: &[Txid], block_height: u32) {
-        while let Some(last) = self.last_height()
-            && block_height.saturating_sub(last) > WIDEST_GAP
-        {
-            self.try_block_connected(&[], last + WIDEST_GAP).expect("an empty block within the widest gap");
-        }
         let _ignored = self.try_block_connected(confirmed_txids, block_height);
     }
 
-    /// [`block_connected`](Self::block_connected) over a gap of at most [`WIDEST_GAP`], with its answer.
+    /// [`block_connected`](Self::block_connected), with its answer. It is done as a whole or, refused, changes nothing: no skipped height is gone through.
+    ///
+    /// After a block that was above the last height and was not refused, [`last_height`](Self::last_height) is the block's height.
+    ///
+    /// # Errors
+    /// [`ConfirmedFull`](Refusal::ConfirmedFull): there would be more than 1,000,000 confirmed records, each listing of a pending transaction counted as one.
+    /// (The original goes on, and then writes a history that it does not read again.) One block to a height that lists each transaction once never leads
+    /// there: the records of 27 heights are kept at most, 10,000 of each. A restored history can, and so can blocks at or below the last height, which let go
+    /// of no record.
+    pub fn try_block_connected(&mut self, confirmed_txids: &[Txid], block_height: u32) -> Result<(), Refusal> {
+        let Err(refusal) = self.try_block_step(confirmed_txids, block_height) else { return Ok(()) };
+        if self.last_height().is_none_or(|last| last.saturating_add(1) >= block_height) {
+            return Err(refusal);
+        }
+        let mut ahead = self.clone();
+        ahead.advance_to(block_height - 1);
+        ahead.try_block_step(confirmed_txids, block_height)?;
+        *self = ahead;
+        Ok(())
+    }
+
+    /// Goes through the heights up to this one by blocks of no ids. A block above them is then what it would have been without.
+    fn advance_to(&mut self, height: u32) {
+        while let Some(last) = self.last_height()
+            && last < height
+        {
+            let next = height.min(last.saturating_add(WIDEST_GAP));
+            self.try_block_step(&[], next).expect("a block of no ids within the widest gap");
+        }
+    }
+
+    /// [`try_block_connected`](Self::try_block_connected) over at most [`WIDEST_GAP`] heights, as one call of the library: its work is bounded.
     ///
     /// # Errors
     /// [`GapTooWide`](Refusal::GapTooWide), [`ConfirmedFull`](Refusal::ConfirmedFull).
-    pub fn try_block_connected(&mut self, confirmed_txids: &[Txid], block_height: u32) -> Result<(), Refusal> {
+    pub fn try_block_step(&mut self, confirmed_txids: &[Txid], block_height: u32) -> Result<(), Refusal> {
         let listed = confirmed_txids.len().min(MOST_RECENT);
         let room = (self.confirmed_len() + listed).min(MOST_RECENT);
         self.recent.resize(room * RECENT_SIZE, 0);
@@ -200,6 +238,9 @@ impl FeeEstimator {
     ///
     /// # Errors
     /// The bytes are no history that this version reads.
+    ///
+    /// # Panics
+    /// As [`new`](Self::new).
     pub fn from_history_bytes(bytes: &[u8]) -> Result<Self, HistoryReject> {
         Self::try_from_history_bytes(bytes).map_err(|refusal| match refusal {
             Refusal::BadMagic => HistoryReject::BadMagic,
@@ -223,7 +264,7 @@ impl FeeEstimator {
         Ok(read)
     }
 
-    /// The height of the last block that advanced, if there was one.
+    /// The last height: that of the highest block since the start, or of the restored history where that is higher; none before the first.
     #[must_use]
     pub fn last_height(&self) -> Option<u32> {
         let [has_last, height, ..] = self.state;
@@ -264,6 +305,14 @@ impl fmt::Debug for FeeEstimator {
             .field("confirmed", &self.confirmed_len())
             .finish_non_exhaustive()
     }
+}
+
+/// Another version of the interface would read and write other memory than this crate lends.
+fn expect_version(library: u32) {
+    assert!(
+        library == VERSION,
+        "libizrughem.a has version {library} of its interface, and this crate is for version {VERSION}: build both from the same sources"
+    );
 }
 
 /// The bucket, from 0 to 141, that a rate in satoshi per kvB belongs to.

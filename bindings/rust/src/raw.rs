@@ -13,6 +13,7 @@ mod tests;
 pub type State = [u64; 4];
 
 unsafe extern "C" {
+    safe fn izr_version() -> u32;
     fn izr_new(
         confirmed: *mut f64,
         confirmed_len: usize,
@@ -103,6 +104,10 @@ pub struct Lent<'a> {
     pub resolved: &'a mut [f64],
     pub pending: &'a mut [u8],
     pub recent: &'a mut [u8],
+}
+
+pub fn version() -> u32 {
+    izr_version()
 }
 
 pub fn new(state: &mut State, lent: Lent<'_>) -> u32 {

@@ -37,7 +37,7 @@ fn refused_calls_change_nothing() {
     let before = quad.to_history_bytes();
     assert_eq!(quad.try_tx_entered(id(3), 9_000, 50), Err(Refusal::AlreadyPending));
     assert_eq!(quad.try_tx_left(&id(1)), Err(Refusal::Absent));
-    assert_eq!(quad.try_block_connected(&[id(3)], 101 + WIDEST_GAP + 1), Err(Refusal::GapTooWide));
+    assert_eq!(quad.try_block_step(&[id(3)], 101 + WIDEST_GAP + 1), Err(Refusal::GapTooWide));
     let mut short = vec![7; before.len() - 1];
     assert_eq!(quad.try_to_history_bytes(&mut short), Err(Refusal::ShortOutput(before.len())));
     assert!(short.iter().all(|byte| *byte == 7));
@@ -54,10 +54,58 @@ fn a_longer_output_is_written_at_its_start() {
 }
 
 #[test]
-fn the_widest_gap_is_taken() {
-    let mut quad = quad();
-    assert_eq!(quad.try_block_connected(&[], 101 + WIDEST_GAP), Ok(()));
-    assert_eq!((quad.last_height(), quad.pending_len(), quad.confirmed_len()), (Some(101 + WIDEST_GAP), 0, 0));
+fn a_gap_of_any_width_is_taken() {
+    for gap in [WIDEST_GAP, WIDEST_GAP + 1, 3 * WIDEST_GAP + 5] {
+        let mut quad = quad();
+        assert_eq!(quad.try_block_connected(&[id(3)], 101 + gap), Ok(()));
+        assert_eq!((quad.last_height(), quad.pending_len(), quad.confirmed_len()), (Some(101 + gap), 0, 0));
+    }
+}
+
+/// An estimator with last height 100, 1,000,000 confirmed records of it, and one transaction that is pending.
+fn full() -> FeeEstimator {
+    let mut seen = FeeEstimator::new();
+    seen.block_connected(&[], 100);
+    let mut history = seen.to_history_bytes();
+    history.truncate(history.len() - 4);
+    history.extend(1_000_000_u32.to_le_bytes());
+    for record in 0..1_000_000_u32 {
+        history.extend(record.to_be_bytes());
+        history.extend([0; 28]);
+        history.extend(100_u32.to_le_bytes());
+    }
+    let mut full = FeeEstimator::from_history_bytes(&history).expect("as many records as there may be");
+    assert_eq!(full.try_tx_entered(id(255), 5_000, 120), Ok(()));
+    full
+}
+
+#[test]
+fn a_full_table_of_confirmed_records_refuses_a_block_as_a_whole() {
+    let mut full = full();
+    let before = full.to_history_bytes();
+    // Height 126 lets go of the records: up to there the block has no place, gone through the heights before it or not.
+    for height in [99, 100, 101, 126] {
+        assert_eq!(full.try_block_connected(&[id(255)], height), Err(Refusal::ConfirmedFull), "{height}");
+        assert_eq!((full.last_height(), full.pending_len(), full.confirmed_len()), (Some(100), 1, 1_000_000));
+    }
+    full.block_connected(&[id(255)], 101);
+    assert!(full.to_history_bytes() == before, "a refused block changes nothing");
+    assert_eq!(full.try_block_connected(&[id(254)], 101), Ok(()), "what is not pending needs no place");
+    assert_eq!(full.try_block_connected(&[id(255)], 127), Ok(()));
+    assert_eq!((full.last_height(), full.pending_len(), full.confirmed_len()), (Some(127), 0, 1));
+}
+
+#[test]
+fn an_estimator_can_be_shared_between_threads() {
+    fn shared<T: Send + Sync>(_: &T) {}
+    let quad = quad();
+    shared(&quad);
+    std::thread::scope(|scope| {
+        let estimates = [(); 4].map(|()| scope.spawn(|| (rate(&quad, 1), quad.to_history_bytes())));
+        for estimate in estimates {
+            assert_eq!(estimate.join().expect("a thread that ends"), (Some(1_050), quad.to_history_bytes()));
+        }
+    });
 }
 
 #[test]

@@ -190,6 +190,36 @@ fn no_more_than_10_000_are_pending() {
     pair.check();
 }
 
+/// A history with that last height and 1,000,000 confirmed records of it.
+fn full(height: u32) -> Vec<u8> {
+    let mut pair = Pair::new();
+    pair.block_connected(&[], height);
+    let mut history = pair.here.to_history_bytes();
+    history.truncate(history.len() - 4);
+    history.extend(1_000_000_u32.to_le_bytes());
+    for record in 0..1_000_000_u32 {
+        history.extend(record.to_be_bytes());
+        history.extend([0; 28]);
+        history.extend(height.to_le_bytes());
+    }
+    history
+}
+
+#[test]
+fn a_full_table_that_the_skipped_heights_clear() {
+    let full = full(100);
+    for (entry, height) in [(120, 127), (990, 1_000), (9_990, 10_000)] {
+        let mut pair = read(&full).expect("as many records as there may be");
+        pair.tx_entered([255; 32], 5_000, entry);
+        pair.block_connected(&[[255; 32]], height);
+        assert_eq!((pair.here.last_height(), pair.here.pending_len(), pair.here.confirmed_len()), (Some(height), 0, 1));
+        pair.check();
+        pair.tx_entered([254; 32], 9_000, height);
+        pair.block_connected(&[[254; 32], [255; 32]], height + 1);
+        pair.check();
+    }
+}
+
 /// A history with records of both kinds, ids rising.
 fn history() -> Vec<u8> {
     let mut pair = Pair::new();

@@ -20,7 +20,15 @@ ghost use mathlib.Core.Path.{_≡_};
 ghost use mathlib.Core.List.{[]};
 ghost use Rattle.rules.specs.Ladder.{bucket-index};
 ghost use Rattle.rules.specs.Slices.{before, after};
-ghost use Rattle.izrughem.specs.Calls.{seen, izr-new, izr-tx-entered, izr-tx-left, izr-block-connected, izr-estimate, izr-to-history-bytes, izr-from-history-bytes};
+ghost use Rattle.boundary.specs.Calls.{abi-version, seen, izr-new, izr-tx-entered, izr-tx-left, izr-block-connected, izr-estimate, izr-to-history-bytes, izr-from-history-bytes};
+
+// The version of this ABI. A caller holds it against the number that it was written for.
+#[no_mangle]
+pub extern "C" fn izr_version() -> u32
+    ensures { λ r. ⌜ r ≡ abi-version ⌝ }
+{
+    1
+}
 
 // A fresh start.
 #[no_mangle]

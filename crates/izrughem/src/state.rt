@@ -7,7 +7,7 @@ ghost use mathlib.Core.Path.{_≡_};
 ghost use mathlib.Core.Bool.{true};
 ghost use Prim.Native.Nat.{_≤_, _<_, _^_};
 ghost use lib.ListN.{length};
-ghost use Rattle.izrughem.specs.Words.{holds-last, holds-state, last-in, state-in, flag-of, height-of, put-state, put-if-done};
+ghost use Rattle.boundary.specs.Words.{holds-last, holds-state, last-in, state-in, flag-of, height-of, put-state, put-if-done};
 
 // One more than the highest height.
 const HEIGHTS: u64 = 4294967296;

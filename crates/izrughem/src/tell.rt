@@ -9,8 +9,8 @@ ghost use mathlib.Core.Path.{_≡_};
 ghost use Prim.Native.Nat.{_≤_};
 ghost use lib.ListN.{length};
 ghost use Rattle.kinds.specs.Answers.{read-answer, write-answer, estimate-answer};
-ghost use Rattle.izrughem.specs.Words.{put-if-done};
-ghost use Rattle.izrughem.specs.Calls.{carry, rate-carried, length-carried};
+ghost use Rattle.boundary.specs.Words.{put-if-done};
+ghost use Rattle.boundary.specs.Calls.{carry, rate-carried, length-carried};
 
 // The number of an estimate. It carries the rate, or 0 where there is none.
 pub(crate) fn tell_estimated(carried: &mut [u64], estimated: Estimated) -> u32

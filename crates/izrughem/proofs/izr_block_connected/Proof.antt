@@ -8,10 +8,10 @@ use Rattle.kinds.specs.declared.State.{State}
 use Rattle.rules.specs.Board.{base}
 use Rattle.rules.specs.Memory.{lent}
 use Rattle.rules.specs.Calls.{block-call}
-use Rattle.izrughem.specs.Words.{holds-state}
-use Rattle.izrughem.specs.Calls.{izr-block-connected}
-use Rattle.izrughem.proofs.Words.{four}
-use Rattle.izrughem.proofs.Calls.{unfit, fits, tells}
+use Rattle.boundary.specs.Words.{holds-state}
+use Rattle.boundary.specs.Calls.{izr-block-connected}
+use Rattle.boundary.proofs.Words.{four}
+use Rattle.boundary.proofs.Calls.{unfit, fits, tells}
 use Rattle.izrughem.proofs.izr_block_connected.Statement.{statement}
 use Rattle.izrughem.proofs.izr_block_connected.Tie as tie
 

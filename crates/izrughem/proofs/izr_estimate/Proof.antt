@@ -7,9 +7,9 @@ use borrow.Author.Needs.{needs}
 use Rattle.kinds.specs.declared.State.{State}
 use Rattle.rules.specs.Board.{base}
 use Rattle.rules.specs.Calls.{estimate-call}
-use Rattle.izrughem.specs.Words.{holds-state}
-use Rattle.izrughem.specs.Calls.{izr-estimate}
-use Rattle.izrughem.proofs.Calls.{not-first, not-second, both, no-word, a-word, unfit, fits, estimates}
+use Rattle.boundary.specs.Words.{holds-state}
+use Rattle.boundary.specs.Calls.{izr-estimate}
+use Rattle.boundary.proofs.Calls.{not-first, not-second, both, no-word, a-word, unfit, fits, estimates}
 use Rattle.izrughem.proofs.izr_estimate.Statement.{statement}
 use Rattle.izrughem.proofs.izr_estimate.Tie as tie
 

@@ -4,8 +4,8 @@ use borrow.Author.Tests.{le-leb, lt-leb}
 use lib.Dec.{leb}
 use lib.ListN.{length}
 use borrow.Author.Needs.{needs}
-use Rattle.izrughem.specs.Calls.{izr-from-history-bytes}
-use Rattle.izrughem.proofs.Calls.{not-first, not-second, both, no-word, a-word, unfit, fits, begins}
+use Rattle.boundary.specs.Calls.{izr-from-history-bytes}
+use Rattle.boundary.proofs.Calls.{not-first, not-second, both, no-word, a-word, unfit, fits, begins}
 use Rattle.izrughem.proofs.izr_from_history_bytes.Statement.{statement}
 use Rattle.izrughem.proofs.izr_from_history_bytes.Tie as tie
 

@@ -5,9 +5,9 @@ use Prim.Native.Nat.{ℕ}
 use denote.Ref.{now}
 use borrow.Author.Tests.{le-leb, lt-leb}
 use borrow.Author.Needs.{needs}
-use Rattle.izrughem.specs.Words.{put-if-done}
-use Rattle.izrughem.specs.Calls.{izr-new}
-use Rattle.izrughem.proofs.Calls.{unfit, fits, begins, carry-none}
+use Rattle.boundary.specs.Words.{put-if-done}
+use Rattle.boundary.specs.Calls.{izr-new}
+use Rattle.boundary.proofs.Calls.{unfit, fits, begins, carry-none}
 use Rattle.izrughem.proofs.izr_new.Statement.{statement}
 use Rattle.izrughem.proofs.izr_new.Tie as tie
 

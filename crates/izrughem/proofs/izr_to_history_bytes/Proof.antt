@@ -9,9 +9,9 @@ use Rattle.rules.specs.Board.{base}
 use Rattle.rules.specs.Memory.{lent}
 use Rattle.format.specs.File.{version-1}
 use Rattle.format.specs.Calls.{write-call}
-use Rattle.izrughem.specs.Words.{holds-state}
-use Rattle.izrughem.specs.Calls.{izr-to-history-bytes}
-use Rattle.izrughem.proofs.Calls.{not-first, not-second, both, no-word, a-word, unfit, fits, writes}
+use Rattle.boundary.specs.Words.{holds-state}
+use Rattle.boundary.specs.Calls.{izr-to-history-bytes}
+use Rattle.boundary.proofs.Calls.{not-first, not-second, both, no-word, a-word, unfit, fits, writes}
 use Rattle.izrughem.proofs.izr_to_history_bytes.Statement.{statement}
 use Rattle.izrughem.proofs.izr_to_history_bytes.Tie as tie
 

@@ -10,10 +10,10 @@ use borrow.Author.Needs.{needs}
 use Rattle.kinds.specs.declared.State.{State}
 use Rattle.rules.specs.Board.{base}
 use Rattle.rules.specs.Calls.{enter-call}
-use Rattle.izrughem.specs.Words.{holds-state}
-use Rattle.izrughem.specs.Calls.{izr-tx-entered}
-use Rattle.izrughem.proofs.Words.{four}
-use Rattle.izrughem.proofs.Calls.{not-first, not-second, both, unfit, fits, tells}
+use Rattle.boundary.specs.Words.{holds-state}
+use Rattle.boundary.specs.Calls.{izr-tx-entered}
+use Rattle.boundary.proofs.Words.{four}
+use Rattle.boundary.proofs.Calls.{not-first, not-second, both, unfit, fits, tells}
 use Rattle.izrughem.proofs.izr_tx_entered.Statement.{statement}
 use Rattle.izrughem.proofs.izr_tx_entered.Tie as tie
 

@@ -1,7 +1,7 @@
 -- `izrughem::state::holds_last` meets its contract: each test is one of the definition's. Assumes nothing.
 use mathlib.Core.Path.{sym}
 use borrow.Author.Tests.{eq-eqb, ne-eqb}
-use Rattle.izrughem.specs.Words.{holds-last}
+use Rattle.boundary.specs.Words.{holds-last}
 use Rattle.izrughem.proofs.state.holds_last.Statement.{statement}
 use Rattle.izrughem.proofs.state.holds_last.Tie as tie
 

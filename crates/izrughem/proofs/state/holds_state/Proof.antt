@@ -2,7 +2,7 @@
 use mathlib.Core.Path.{sym, _∙_}
 use borrow.Author.Tests.{lt-leb, le-leb}
 use borrow.Author.Needs.{needs}
-use Rattle.izrughem.specs.Words.{holds-state}
+use Rattle.boundary.specs.Words.{holds-state}
 use Rattle.izrughem.proofs.state.holds_state.Statement.{statement}
 use Rattle.izrughem.proofs.state.holds_state.Tie as tie
 

@@ -2,7 +2,7 @@
 use mathlib.Core.Path.{sym}
 use borrow.Author.Tests.{eq-eqb, ne-eqb}
 use borrow.Author.Needs.{needs}
-use Rattle.izrughem.specs.Words.{last-in}
+use Rattle.boundary.specs.Words.{last-in}
 use Rattle.izrughem.proofs.state.last_in.Statement.{statement}
 use Rattle.izrughem.proofs.state.last_in.Tie as tie
 

@@ -2,7 +2,7 @@
 use mathlib.Core.Path.{refl, sym, _∙_}
 use borrow.Author.Tests.{eq-eqb, ne-eqb}
 use borrow.Author.Needs.{needs}
-use Rattle.izrughem.specs.Words.{put-if-done}
+use Rattle.boundary.specs.Words.{put-if-done}
 use Rattle.izrughem.proofs.state.put_if_done.Statement.{statement}
 use Rattle.izrughem.proofs.state.put_if_done.Tie as tie
 

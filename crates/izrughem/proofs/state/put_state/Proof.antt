@@ -3,7 +3,7 @@ use denote.Ref.{now}
 use native.Mathlib.Omega.{arith}
 use lib.ListN.{length-set}
 use borrow.Author.Needs.{needs}
-use Rattle.izrughem.proofs.Words.{stored}
+use Rattle.boundary.proofs.Words.{stored}
 use Rattle.izrughem.proofs.state.put_state.Statement.{statement}
 use Rattle.izrughem.proofs.state.put_state.Tie as tie
 

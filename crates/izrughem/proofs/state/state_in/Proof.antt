@@ -2,9 +2,9 @@
 use denote.Ref.{now}
 use Prim.Native.Nat.{_≤_}
 use lib.ListN.{length}
-use Rattle.izrughem.specs.Words.{state-in}
+use Rattle.boundary.specs.Words.{state-in}
 use native.Mathlib.Omega.{arith}
-use Rattle.izrughem.proofs.Words.{four, low}
+use Rattle.boundary.proofs.Words.{four, low}
 use Rattle.izrughem.proofs.state.state_in.Statement.{statement}
 use Rattle.izrughem.proofs.state.state_in.Tie as tie
 

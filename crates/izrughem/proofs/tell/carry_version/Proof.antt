@@ -1,8 +1,8 @@
 -- `izrughem::tell::carry_version` meets its contract: no other answer of a reading carries anything. Assumes nothing.
 use mathlib.Core.Path.{sym}
 use borrow.Author.Needs.{needs}
-use Rattle.izrughem.specs.Calls.{carry}
-use Rattle.izrughem.proofs.Calls.{no-version}
+use Rattle.boundary.specs.Calls.{carry}
+use Rattle.boundary.proofs.Calls.{no-version}
 use Rattle.izrughem.proofs.tell.carry_version.Statement.{statement}
 use Rattle.izrughem.proofs.tell.carry_version.Tie as tie
 

@@ -1,7 +1,7 @@
 -- `izrughem::tell::tell_estimated` meets its contract: in each arm it is known what is carried. Assumes nothing.
 use mathlib.Core.Path.{sym}
 use borrow.Author.Needs.{needs}
-use Rattle.izrughem.specs.Calls.{carry, rate-carried}
+use Rattle.boundary.specs.Calls.{carry, rate-carried}
 use Rattle.izrughem.proofs.tell.tell_estimated.Statement.{statement}
 use Rattle.izrughem.proofs.tell.tell_estimated.Tie as tie
 

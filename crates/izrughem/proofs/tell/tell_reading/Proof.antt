@@ -3,7 +3,7 @@ use mathlib.Core.Path.{ap, _∙_}
 use Prim.Native.Nat.{ℕ}
 use borrow.Author.Needs.{needs}
 use denote.Ref.{now}
-use Rattle.izrughem.specs.Words.{put-if-done}
+use Rattle.boundary.specs.Words.{put-if-done}
 use Rattle.izrughem.proofs.tell.tell_reading.Statement.{statement}
 use Rattle.izrughem.proofs.tell.tell_reading.Tie as tie
 

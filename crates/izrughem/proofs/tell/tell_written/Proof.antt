@@ -1,7 +1,7 @@
 -- `izrughem::tell::tell_written` meets its contract: in each arm it is known what is carried. Assumes nothing.
 use mathlib.Core.Path.{sym}
 use borrow.Author.Needs.{needs}
-use Rattle.izrughem.specs.Calls.{carry, length-carried}
+use Rattle.boundary.specs.Calls.{carry, length-carried}
 use Rattle.izrughem.proofs.tell.tell_written.Statement.{statement}
 use Rattle.izrughem.proofs.tell.tell_written.Tie as tie
 

@@ -18,8 +18,8 @@ use Rattle.kinds.proofs.ReadAnswer.{the-type}
 use Rattle.kinds.specs.Answers.{Answer, read-answer}
 use Rattle.rules.specs.Calls.{Outcome, outcome}
 use Rattle.format.specs.Calls.{Output, output}
-use Rattle.izrughem.specs.Words.{put-state, put-if-done}
-use Rattle.izrughem.specs.Calls.{Seen, seen, if-fit, told, carry, begun, rate-carried, length-carried}
+use Rattle.boundary.specs.Words.{put-state, put-if-done}
+use Rattle.boundary.specs.Calls.{Seen, seen, if-fit, told, carry, begun, rate-carried, length-carried}
 
 -- ---- what fits
 

@@ -1,6 +1,8 @@
 -- Laws of the C ABI.
 
 -- a state in words
-mod Words
+pub mod Words
 -- what a caller sees, said of the calls below
-mod Calls
+pub mod Calls
+-- what a refused call leaves
+pub mod Refusals

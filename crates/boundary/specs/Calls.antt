@@ -11,7 +11,11 @@ use Rattle.rules.specs.Memory.{Lent}
 use Rattle.rules.specs.Calls.{Outcome, start-call, enter-call, leave-call, block-call, estimate-call}
 use Rattle.format.specs.File.{version-1}
 use Rattle.format.specs.Calls.{write-call, read-call}
-use Rattle.izrughem.specs.Words.{holds-state, state-in, put-state, put-if-done}
+use Rattle.boundary.specs.Words.{holds-state, state-in, put-state, put-if-done}
+
+-- The version of the C ABI. It moves by one where the state's words, a record's bytes, a call's parameters or the answers to them change.
+abbrev pub abi-version : ℕ
+abi-version = 1
 
 -- all that a caller can see of a call: the number, the state's words, the words for what the answer carries, and the rest of what it lends, an L
 pub record Seen (L : Type 0) : Type 0 where

@@ -4,3 +4,5 @@
 pub mod Words
 -- each exported function
 pub mod Calls
+-- what a refused call leaves
+pub mod Refusals

@@ -1,7 +1,8 @@
 -- The state in four words: whether there is a last height (1 or 0), the height (0 where there is none), and how many pending and confirmed records are used.
 -- Assumes nothing.
-use Prim.Native.Nat.{ℕ, _^_}
-use mathlib.Core.Bool.{Bool, _&&_, cond}
+use mathlib.Core.Path.{_≡_}
+use Prim.Native.Nat.{ℕ, _^_, _<_}
+use mathlib.Core.Bool.{Bool, true, _&&_, cond}
 use mathlib.Core.List.{List, _∷_}
 use lib.Dec.{leb, ltb, eqb}
 use lib.ListN.{length, getD, drop}
@@ -42,3 +43,11 @@ put-state s ws = flag-of (s .last) ∷ height-of (s .last) ∷ s .pending ∷ s 
 -- the state of a fresh start or of a reading goes into the words where its number is that of Done; refused, there is none
 unfoldable pub put-if-done : ℕ → State → List ℕ → List ℕ
 put-if-done number s ws = cond (eqb number 0) (put-state s ws) ws
+
+-- ---- what the words promise
+
+-- Words that hold a state are that state's own words; a state comes back out of its words, and they hold it, since a height has 32 bits.
+pub record WordsPromise : Type 0 where
+  pub own : (ws : List ℕ) → holds-state ws ≡ true → put-state (state-in ws) ws ≡ ws
+  pub back : (s : State) (ws : List ℕ) → state-in (put-state s ws) ≡ s
+  pub held : (s : State) (ws : List ℕ) → height-of (s .last) < 2 ^ 32 → holds-state (put-state s ws) ≡ true

@@ -1,0 +1,1 @@
+// No code: the calls of the C ABI as definitions, and what they promise.
