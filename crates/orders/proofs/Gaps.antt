@@ -14,17 +14,17 @@ use Rattle.kinds.specs.declared.State.{State}
 use Rattle.kinds.specs.declared.Last.{Last}
 use Rattle.kinds.specs.Answers.{done, bad-list, gap-too-wide, confirmed-full}
 use Rattle.rules.specs.Lists.{count}
-use Rattle.rules.specs.Ids.{Id}
 use Rattle.rules.specs.Board.{Board, Lawful}
 use Rattle.rules.specs.Records.{records}
 use Rattle.rules.specs.Estimator.{Estimator, is-pending, block-connected}
 use Rattle.rules.specs.Memory.{Lent, confirmed-capacity, sound, view, state-of, lay}
-use Rattle.rules.specs.Calls.{Outcome, outcome, refused, accepted, gap, widest-gap, ids-of, pending-listings, block-call}
+use Rattle.rules.specs.Calls.{Outcome, outcome, refused, accepted, gap, widest-gap, ids-of, block-call}
 use Rattle.rules.proofs.All.{none}
 use Rattle.rules.proofs.Memory.{Room, state-of-view, lay-of-view}
 use Rattle.rules.proofs.Records.{and-left, and-right}
 use Rattle.rules.proofs.Well.{Well, well-block}
 use Rattle.rules.proofs.Sound.{lay-sound}
+use Rattle.rules.proofs.Listed.{listings-of}
 use Rattle.rules.proofs.Room.{Within, within-none, then, count-le, within-block}
 use Rattle.floats.proofs.Count.{Factor}
 use Rattle.floats.proofs.Steady.{Steady, steady-block}
@@ -64,11 +64,6 @@ module _ (k : Board) (law : Lawful k) (d : Factor (k .decay)) (l : Lent) where
       (cond (ltb (confirmed-capacity (l .recent)) (filled ids e)) (refused confirmed-full (state-of e) (lay k e l))
       (accepted k (block-connected k (ids-of ids) (B .0) e) l)))
 
-  -- listings of ids that are pending
-  listed : (ids : List Id) (s : State) (m : Lent) (e : Estimator) → view k s m ≡ e → pending-listings k s m ids ≡ count (λ i. is-pending i (e .pending)) ids
-  unfolding pending-listings view
-  listed ids s m e v = ap (λ (x : Estimator). count (λ i. is-pending i (x .pending)) ids) v
-
   block-is : (ids : List ℕ) (B : Height) (e : Estimator) → Fine e → block-call k (state-of e) (lay k e l) ids B ≡ judged ids B e
   unfolding block-call state-of
   block-is ids B e f =
@@ -76,7 +71,7 @@ module _ (k : Board) (law : Lawful k) (d : Factor (k .decay)) (l : Lent) where
       rw (
         lay-sound k law e l (f .well) (counts-sound (f .steady)) (f .room),
         same-recent k law e l (f .well) (f .room),
-        listed (ids-of ids) (state-of e) (lay k e l) e v,
+        listings-of k (state-of e) (lay k e l) e (ids-of ids) v,
         v,
         relaid k law e (block-connected k (ids-of ids) (B .0) e) l (f .well) (f .room),
       )
@@ -203,7 +198,7 @@ crossed k law d s l t h L a hs ids B c n b =
     record {
       answered = o .answered;
       as-one-step = o .as-one-step;
-      finds-room = λ p q r. o .finds-room p q (omega (arith, r, used-recent k law d s l h t, listed k law d l (ids-of ids) s l e refl));
+      finds-room = λ p q r. o .finds-room p q (omega (arith, r, used-recent k law d s l h t, listings-of k s l e (ids-of ids) refl));
       as-alone = o .as-alone;
       too-far = o .too-far;
     }

@@ -81,7 +81,7 @@ pub record Crossed (k : Board) (s : State) (l : Lent) (L : ℕ) (hs ids : List �
   pub finds-room : length ids % 32 ≡ 0 → B - last-of L hs ≤ widest-gap → s .recent + pending-listings k s l (ids-of ids) ≤ confirmed-capacity (l .recent) → then-block k hs ids B s l .answer .number ≡ 0
   -- So where the block alone would have been Done, it is Done after them too, and all is as if it had come alone.
   pub as-alone : alone k ids B s l .answer .number ≡ 0 → then-block k hs ids B s l ≡ alone k ids B s l
-  -- Where it would have been too far, it alone is GapTooWide, and changes nothing: the three before this one are then all there is to say.
+  -- Where it would have been too far, it alone is GapTooWide, and changes nothing; the first three then say what a caller has.
   pub too-far : length ids % 32 ≡ 0 → widest-gap < B - L → alone k ids B s l ≡ refused gap-too-wide s l
 
 -- ---- the promise

@@ -57,7 +57,7 @@ pub data Edge : Type 0 where
   leaves-tables : State → Lent → List ℕ → ℕ → List ℕ → List ℕ → ℕ → ℕ → Edge
   -- a block leaves these counts in a bucket, and +0.0 elsewhere
   leaves-counts : State → Lent → List ℕ → ℕ → ℕ → List Float → List Float → Edge
-  -- a block leaves these numbers past the 3,550 counts of each kind
+  -- a block is Done, and leaves these numbers past the 3,550 counts of each kind
   leaves-beyond : State → Lent → List ℕ → ℕ → List Float → List Float → Edge
 
 unfoldable pub holds-true : Edge → Bool
@@ -71,4 +71,4 @@ holds-true (leaves-counts s l ids B b confirmed resolved) =
     same-counts (take places-of-counts (o .lent .confirmed)) (only b confirmed) && same-counts (take places-of-counts (o .lent .resolved)) (only b resolved)
 holds-true (leaves-beyond s l ids B confirmed resolved) =
     let o = block-call base s l ids (record { 0 = B }) in
-    same-counts (drop places-of-counts (o .lent .confirmed)) confirmed && same-counts (drop places-of-counts (o .lent .resolved)) resolved
+    eqb (o .answer .number) 0 && (same-counts (drop places-of-counts (o .lent .confirmed)) confirmed && same-counts (drop places-of-counts (o .lent .resolved)) resolved)

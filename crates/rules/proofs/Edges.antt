@@ -97,8 +97,7 @@ edges =
     ∷ says (connects (state Nothing 1 0) (memory (pending 1 142 0) []) [] 101) 1 []
     ∷ says (connects (state Nothing 0 1) (memory [] (confirmed 1 5)) [] 101) 0 []
     ∷ says (connects (state Nothing 0 2) (memory [] (confirmed 1 5)) [] 101) 1 []
-    -- the confirmed table as the pending one: ids that rise; an id twice, ids that fall, an unused place not zero
-    ∷ says (connects (state Nothing 0 2) (memory [] (confirmed 1 5 ++ confirmed 2 5)) [] 101) 0 []
+    -- the confirmed table as the pending one: an id twice, ids that fall, an unused place not zero
     ∷ says (connects (state Nothing 0 2) (memory [] (confirmed 1 5 ++ confirmed 1 5)) [] 101) 1 []
     ∷ says (connects (state Nothing 0 2) (memory [] (confirmed 2 5 ++ confirmed 1 5)) [] 101) 1 []
     ∷ says (connects (state Nothing 0 1) (memory [] (confirmed 1 5 ++ confirmed 2 5)) [] 101) 1 []
@@ -109,10 +108,9 @@ edges =
     ∷ says (connects (state (at 100) 1 0) one-pending (id 1 ++ id 1 ++ id 1) 4196) 7 []
     ∷ says (connects (state Nothing 1 0) one-pending (id 1 ++ id 1) 101) 0 []
     ∷ says (connects (state Nothing 1 0) one-pending (id 1 ++ id 2 ++ id 2) 101) 0 []
-    -- 7 counts the records that are there before the call, also one that height 101 would prune: one place, and two
-    ∷ says (connects (state (at 100) 1 1) (memory (pending 1 33 0) (confirmed 2 100)) (id 1) 101) 7 []
-    ∷ says (connects (state (at 100) 1 1) (memory (pending 1 33 0) (confirmed 2 100 ++ zeros 36)) (id 1) 101) 0 []
-    ∷ says (connects (state (at 100) 1 1) (memory (pending 1 33 0) (confirmed 2 50)) (id 1) 102) 7 []
+    -- 7 counts the records that are there before the call, also one that height 101 would prune: two records and two places, and three
+    ∷ says (connects (state (at 100) 1 2) (memory (pending 1 33 0) (confirmed 2 100 ++ confirmed 3 50)) (id 1) 102) 7 []
+    ∷ says (connects (state (at 100) 1 2) (memory (pending 1 33 0) (confirmed 2 100 ++ confirmed 3 50 ++ zeros 36)) (id 1) 102) 0 []
     -- gap 4,096 runs; 4,097 is refused; no last height is no gap
     ∷ says (connects (state (at 100) 1 0) one-pending [] 4196) 0 []
     ∷ says (connects (state (at 100) 1 0) one-pending [] 4197) 6 []
@@ -135,7 +133,6 @@ edges =
     -- 3.0 through those heights is rounded three times: one multiplication by a power gives another number
     ∷ leaves-counts (state (at 100) 0 0) (lent (first-count (decimal 3 1)) no-counts [] []) [] 103 0 (decayed 3 (decimal 3 1) ∷ replicate 24 nought) (replicate columns nought)
     -- what is lent past the 3,550 counts is neither judged nor changed
-    ∷ says (connects (state (at 100) 0 0) (lent (no-counts ++ (nan ∷ [])) (no-counts ++ (inf true ∷ [])) [] []) [] 101) 0 []
     ∷ leaves-beyond (state (at 100) 0 0) (lent (no-counts ++ (minus-one ∷ [])) (no-counts ++ (one ∷ [])) [] []) [] 101 (minus-one ∷ []) (one ∷ [])
     ∷ says (estimates (first-count one ++ (nan ∷ [])) (first-count one ++ (minus-one ∷ [])) 1) 0 (1000 ∷ [])
     -- estimate judges only the counts, at target 0 too
