@@ -1,20 +1,25 @@
 -- The file of a fresh start: how it begins, how long it is, that it is read, and that one byte more is not. Assumes nothing.
 use mathlib.Core.Path.{_≡_, refl}
-use mathlib.Core.List.{[], _∷_, _++_}
-use Prim.Native.Nat.{ℕ}
+use mathlib.Core.List.{List, [], _∷_, _++_}
+use Prim.Native.Nat.{ℕ, _≤_}
 use native.Mathlib.Omega.{arith}
 use lib.ListN.{length, take, length-replicate}
+use Rattle.kinds.specs.declared.Last.{Last}
+use Rattle.kinds.specs.declared.Last.the-variants.{Nothing}
 use Rattle.kinds.specs.Answers.{corrupt}
 use Rattle.rules.specs.Ladder.{ladder}
-use Rattle.rules.specs.Counts.{places-of-counts, nought}
+use Rattle.rules.specs.Counts.{places-of-counts, nought, no-counts}
 use Rattle.rules.specs.Bytes.{bytes}
 use Rattle.rules.specs.Records.{joined}
-use Rattle.rules.specs.Estimator.{fresh}
-use Rattle.rules.proofs.All.{none}
+use Rattle.rules.specs.Board.{Pending, Confirmed, pending-most, confirmed-most}
+use Rattle.rules.specs.Estimator.{Estimator, fresh}
+use Rattle.rules.proofs.All.{All, none}
+use Rattle.rules.proofs.Memory.{ConfirmedFits}
+use Rattle.rules.proofs.Well.{WellPending}
 use Rattle.floats.proofs.Steps.{all-nought}
 use Rattle.format.specs.Parts.{bad, good}
 use Rattle.format.specs.File.{Version, version-1, version-3, rates, rates-from, bucket-bytes, last-bytes, head-bytes, history-of, read-history, history-length}
-use Rattle.format.proofs.Back.{LawfulVersion, version-1-lawful, version-3-lawful, Writable, written-is-read, extra-is-corrupt}
+use Rattle.format.proofs.Back.{LawfulVersion, version-1-lawful, version-3-lawful, Short, Writable, written-is-read, extra-is-corrupt}
 use Rattle.format.proofs.Lengths.{length-history}
 
 -- its start
@@ -28,20 +33,29 @@ wide-start : take 23 (history-of version-3 fresh)
 unfolding history-of head-bytes joined last-bytes bytes bucket-bytes rates rates-from ladder fresh
 wide-start = refl
 
-fresh-writable : Writable fresh
-unfolding fresh
-fresh-writable =
+-- every count +0.0, and these records
+abbrev pub uncounted : Last → List Pending → List Confirmed → Estimator
+uncounted last ps cs = record { last = last; pending = ps; recent = cs; confirmed = no-counts; resolved = no-counts }
+
+-- a file can hold it
+pub uncounted-writable : (last : Last) {ps : List Pending} {cs : List Confirmed} → Short last → length ps ≤ pending-most → length cs ≤ confirmed-most
+    → All WellPending ps → All ConfirmedFits cs → Writable (uncounted last ps cs)
+uncounted-writable last short few-pending few-recent ps cs =
     record {
-      last = tt;
+      last = short;
       confirmed-places = length-replicate places-of-counts nought;
       resolved-places = length-replicate places-of-counts nought;
       confirmed = all-nought places-of-counts;
       resolved = all-nought places-of-counts;
-      pending-few = omega arith;
-      recent-few = omega arith;
-      pending = none;
-      recent = none;
+      pending-few = few-pending;
+      recent-few = few-recent;
+      pending = ps;
+      recent = cs;
     }
+
+fresh-writable : Writable fresh
+unfolding fresh
+fresh-writable = uncounted-writable Nothing tt (omega arith) (omega arith) none none
 
 -- ---- of any lawful version
 

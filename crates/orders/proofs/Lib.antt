@@ -6,5 +6,9 @@ pub mod Steps
 pub mod Calls
 -- any number of them
 pub mod Feeds
+-- blocks that list nothing, as steps
+pub mod Heights
+-- and as calls
+pub mod Gaps
 -- every promise, for the base board
 pub mod Base

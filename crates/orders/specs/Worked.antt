@@ -1,20 +1,26 @@
--- Worked cases of the base board: an entry and a leave of one id do not commute, and the edges of the laws. Assumes nothing.
+-- Worked cases of the base board: an entry and a leave of one id do not commute, the edges of the laws, and blocks across a gap. Assumes nothing.
 use Prim.Native.Nat.{ℕ}
 use mathlib.Core.Path.{refl}
-use mathlib.Core.Bool.{Bool, _&&_}
+use mathlib.Core.Bool.{Bool, not, _&&_}
 use mathlib.Core.List.{List, [], _∷_, _++_}
 use lib.Dec.{eqb, lit<}
 use lib.ListN.{replicate}
 use Rattle.kinds.specs.declared.State.{State}
-use Rattle.kinds.specs.declared.Last.the-variants.{Nothing}
+use Rattle.kinds.specs.declared.Last.{Last}
+use Rattle.kinds.specs.declared.Last.the-variants.{Nothing, At}
 use Rattle.rules.specs.Ids.{Id, same}
 use Rattle.rules.specs.Board.{base}
+use Rattle.rules.specs.Counts.{one, no-counts}
+use Rattle.rules.specs.Estimator.{Estimator, block-connected}
+use Rattle.rules.specs.Memory.{Lent, lent}
+use Rattle.rules.proofs.Edge.{same-counts}
 use Rattle.orders.specs.Orders.{Call, Entry, entering, leaving, in-turn, Alike}
+use Rattle.orders.specs.Gaps.{all-done, then-block, alone}
 
 -- ---- the calls
 
 -- an id of one byte and 31 zeros
-abbrev id : ℕ → Id
+abbrev pub id : ℕ → Id
 id n = n ∷ replicate 31 0
 
 -- id n enters at the rate 5,000 and the height 100
@@ -83,3 +89,43 @@ worked =
 -- "An entry and a leave of one id do not commute": on a table of one free place the two orders do not give the same memory.
 unfoldable pub OneIdPromise : Type 0
 OneIdPromise = ¬ (Alike (enters 7) (leaves 7) (used 0) (table free))
+
+-- ---- blocks across a gap
+
+-- the first three columns of bucket 0, with a record of it that was entered at 100
+abbrev pub small : Last → Estimator
+small last = record { last = last; pending = record { id = id 7; bucket = 0; entry = 100; through = 0 } ∷ []; recent = []; confirmed = one ∷ one ∷ one ∷ []; resolved = one ∷ one ∷ one ∷ [] }
+
+-- a block at 103 that lists it leaves the same counts where a block that lists nothing came at h before
+unfoldable pub as-alone-after : ℕ → Last → Bool
+as-alone-after h last =
+    let x = block-connected base (id 7 ∷ []) 103 (block-connected base [] h (small last)) in
+    let y = block-connected base (id 7 ∷ []) 103 (small last) in
+    same-counts (x .confirmed) (y .confirmed) && same-counts (x .resolved) (y .resolved)
+
+-- memory with that record, and a confirmed table of one place: in it is id 9, of height 50
+abbrev pub no-place : Lent
+no-place = lent no-counts no-counts (taken 7) (id 9 ++ (50 ∷ 0 ∷ 0 ∷ 0 ∷ []))
+
+-- the last height is 100, and both tables are full
+abbrev pub full : State
+full = record { last = At (record { 0 = 100 }); pending = 1; recent = 1 }
+
+-- the cases
+unfoldable pub worked-gaps : List Bool
+worked-gaps =
+    -- The last height is 100: at 101 and 102, and at 100 and below, the block before changes nothing.
+    as-alone-after 101 (At (record { 0 = 100 }))
+    ∷ as-alone-after 102 (At (record { 0 = 100 }))
+    ∷ as-alone-after 100 (At (record { 0 = 100 }))
+    ∷ as-alone-after 99 (At (record { 0 = 100 }))
+    -- At 103 itself it decays before the listed are counted.
+    ∷ not (as-alone-after 103 (At (record { 0 = 100 })))
+    -- With no last height it is the first block, and decays.
+    ∷ not (as-alone-after 102 Nothing)
+    -- A block at 102 alone is ConfirmedFull. One at 101 that lists nothing lets the old record go, and then there is room.
+    ∷ eqb (alone base (id 7) 102 full no-place .answer .number) 7
+    ∷ all-done base (101 ∷ []) full no-place
+    ∷ (let o = then-block base (101 ∷ []) (id 7) 102 full no-place in
+    eqb (o .answer .number) 0 && (eqb (o .state .pending) 0 && (eqb (o .state .recent) 1 && (same (o .lent .pending) free && same (o .lent .recent) (id 7 ++ (102 ∷ 0 ∷ 0 ∷ 0 ∷ []))))))
+    ∷ []

@@ -1,1 +1,1 @@
-// No code: in which order entries and leaves may come, and what undoes what.
+// No code: in which order entries and leaves may come, what undoes what, and blocks across a gap.

@@ -50,7 +50,7 @@ counts-of xs h f =
     let long : length (take places-of-counts xs) ≡ places-of-counts = length-take-le places-of-counts xs many in
     all-counted (take places-of-counts xs) (and-right (enough xs) _ h) (λ i l. rw (getD-take places-of-counts xs i nan (omega arith)) (f i (omega arith)))
 
-counts-sound : {e : Estimator} → Steady e → SoundCounts e
+pub counts-sound : {e : Estimator} → Steady e → SoundCounts e
 counts-sound s = record { confirmed = all-sound (s .confirmed); resolved = all-sound (s .resolved) }
 
 different : (m n : ℕ) → eqb m n ≡ false → ¬ (m ≡ n)
@@ -76,24 +76,24 @@ module _ (k : Board) (law : Lawful k) (d : Factor (k .decay)) where
 
   -- what was judged sound
   module _ (s : State) (l : Lent) (h : sound k s l ≡ true) (t : Typed l) where
-    steady : Steady (view k s l)
+    pub steady : Steady (view k s l)
     unfolding sound view
     steady =
         let rest = and-right (sound-counts (l .confirmed)) _ h in
         record { confirmed = counts-of (l .confirmed) (and-left (sound-counts (l .confirmed)) _ h) (t .confirmed); resolved = counts-of (l .resolved) (and-left (sound-counts (l .resolved)) _ rest) (t .resolved) }
 
-    well : Well (view k s l)
+    pub well : Well (view k s l)
     well = view-well k law s l h (t .pending) (t .recent)
 
     used-pending : length (view k s l .pending) ≡ s .pending
     unfolding state-of
     used-pending = ap (λ (x : State). x .pending) (state-of-view k s l)
 
-    used-recent : length (view k s l .recent) ≡ s .recent
+    pub used-recent : length (view k s l .recent) ≡ s .recent
     unfolding state-of
     used-recent = ap (λ (x : State). x .recent) (state-of-view k s l)
 
-    room : Room k (view k s l) l
+    pub room : Room k (view k s l) l
     unfolding sound sound-pending sound-confirmed
     room =
         let tables = and-right (sound-counts (l .resolved)) _ (and-right (sound-counts (l .confirmed)) _ h) in

@@ -3,17 +3,16 @@ use Prim.Native.Nat.{ℕ, _+_, _-_, _*_}
 use mathlib.Core.Bool.{Bool, true, false, _&&_}
 use mathlib.Core.List.{List, [], _∷_, _++_}
 use lib.Dec.{eqb}
-use lib.ListN.{take, replicate}
+use lib.ListN.{take, drop, replicate}
 use lib.Ieee.{Float, binary64, toBits}
 use Rattle.kinds.specs.declared.State.{State}
-use Rattle.kinds.specs.declared.Last.{Last}
-use Rattle.kinds.specs.declared.Last.the-variants.{Nothing, At}
+use Rattle.kinds.specs.declared.Last.the-variants.{Nothing}
 use Rattle.kinds.specs.Answers.{Answer}
 use Rattle.rules.specs.Ids.{Id, same}
-use Rattle.rules.specs.Counts.{Counts, columns, nought, places-of-counts}
+use Rattle.rules.specs.Counts.{Counts, nought, places-of-counts}
 use Rattle.rules.specs.Board.{base}
 use Rattle.rules.specs.Memory.{Lent}
-use Rattle.rules.specs.Calls.{Outcome, start-call, enter-call, leave-call, block-call, estimate-call}
+use Rattle.rules.specs.Calls.{start-call, enter-call, leave-call, block-call, estimate-call}
 
 -- ---- counts
 
@@ -58,6 +57,8 @@ pub data Edge : Type 0 where
   leaves-tables : State → Lent → List ℕ → ℕ → List ℕ → List ℕ → ℕ → ℕ → Edge
   -- a block leaves these counts in a bucket, and +0.0 elsewhere
   leaves-counts : State → Lent → List ℕ → ℕ → ℕ → List Float → List Float → Edge
+  -- a block is Done, and leaves these numbers past the 3,550 counts of each kind
+  leaves-beyond : State → Lent → List ℕ → ℕ → List Float → List Float → Edge
 
 unfoldable pub holds-true : Edge → Bool
 holds-true (says q n carried) = let a = answer-of q in eqb (a .number) n && same (a .carries) carried
@@ -68,3 +69,6 @@ holds-true (leaves-tables s l ids B pending recent p r) =
 holds-true (leaves-counts s l ids B b confirmed resolved) =
     let o = block-call base s l ids (record { 0 = B }) in
     same-counts (take places-of-counts (o .lent .confirmed)) (only b confirmed) && same-counts (take places-of-counts (o .lent .resolved)) (only b resolved)
+holds-true (leaves-beyond s l ids B confirmed resolved) =
+    let o = block-call base s l ids (record { 0 = B }) in
+    eqb (o .answer .number) 0 && (same-counts (drop places-of-counts (o .lent .confirmed)) confirmed && same-counts (drop places-of-counts (o .lent .resolved)) resolved)

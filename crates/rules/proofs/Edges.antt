@@ -9,10 +9,9 @@ use lib.Ieee.{Float, nan, inf, fin, binary64, mul}
 use Rattle.kinds.specs.declared.State.{State}
 use Rattle.kinds.specs.declared.Last.{Last}
 use Rattle.kinds.specs.declared.Last.the-variants.{Nothing, At}
-use Rattle.rules.specs.Ids.{Id}
 use Rattle.rules.specs.Counts.{Counts, columns, places-of-counts, decimal, nought, one, no-counts}
 use Rattle.rules.specs.Memory.{Lent, lent}
-use Rattle.rules.proofs.Edge.{id, Ask, enters, leaves, connects, estimates, Edge, says, starts, leaves-tables, leaves-counts}
+use Rattle.rules.proofs.Edge.{id, enters, leaves, connects, estimates, Edge, says, starts, leaves-tables, leaves-counts, leaves-beyond}
 
 -- ---- memory, with three bytes past the pending capacity and one past the confirmed capacity
 
@@ -46,6 +45,10 @@ first-count x = x ∷ replicate (places-of-counts - 1) nought
 
 abbrev pub one-missing : Counts
 one-missing = replicate (places-of-counts - 1) nought
+
+-- a number that is no count
+abbrev pub minus-one : Float
+minus-one = fin true 1 (pos 0)
 
 -- the count of target 1 in each of the first three buckets
 abbrev pub three : Float → Float → Float → Counts
@@ -87,13 +90,17 @@ edges =
     -- 4
     ∷ says (leaves (state Nothing 1 0) (pending 1 33 0 ++ (5 ∷ [])) (id 2)) 4 []
     -- block judges all: each count, each table
-    ∷ says (connects (state Nothing 0 0) (lent (first-count (fin true 1 (pos 0))) no-counts [] []) [] 101) 1 []
+    ∷ says (connects (state Nothing 0 0) (lent (first-count minus-one) no-counts [] []) [] 101) 1 []
     ∷ says (connects (state Nothing 0 0) (lent no-counts (first-count (inf true)) [] []) [] 101) 1 []
     ∷ says (connects (state Nothing 0 0) (lent no-counts (first-count nan) [] []) [] 101) 1 []
     ∷ says (connects (state Nothing 0 0) (lent (first-count (fin true 0 (pos 0))) no-counts [] []) [] 101) 0 []
     ∷ says (connects (state Nothing 1 0) (memory (pending 1 142 0) []) [] 101) 1 []
     ∷ says (connects (state Nothing 0 1) (memory [] (confirmed 1 5)) [] 101) 0 []
     ∷ says (connects (state Nothing 0 2) (memory [] (confirmed 1 5)) [] 101) 1 []
+    -- the confirmed table as the pending one: an id twice, ids that fall, an unused place not zero
+    ∷ says (connects (state Nothing 0 2) (memory [] (confirmed 1 5 ++ confirmed 1 5)) [] 101) 1 []
+    ∷ says (connects (state Nothing 0 2) (memory [] (confirmed 2 5 ++ confirmed 1 5)) [] 101) 1 []
+    ∷ says (connects (state Nothing 0 1) (memory [] (confirmed 1 5 ++ confirmed 2 5)) [] 101) 1 []
     -- 5 before 6; 6 before 7; 7 where confirmed records and listings (each counted) exceed the two places
     ∷ says (connects (state Nothing 1 0) one-pending (0 ∷ id 1) 101) 5 []
     ∷ says (connects (state (at 100) 1 0) one-pending (0 ∷ id 1) 9999) 5 []
@@ -101,6 +108,9 @@ edges =
     ∷ says (connects (state (at 100) 1 0) one-pending (id 1 ++ id 1 ++ id 1) 4196) 7 []
     ∷ says (connects (state Nothing 1 0) one-pending (id 1 ++ id 1) 101) 0 []
     ∷ says (connects (state Nothing 1 0) one-pending (id 1 ++ id 2 ++ id 2) 101) 0 []
+    -- 7 counts the records that are there before the call, also one that height 101 would prune: two records and two places, and three
+    ∷ says (connects (state (at 100) 1 2) (memory (pending 1 33 0) (confirmed 2 100 ++ confirmed 3 50)) (id 1) 102) 7 []
+    ∷ says (connects (state (at 100) 1 2) (memory (pending 1 33 0) (confirmed 2 100 ++ confirmed 3 50 ++ zeros 36)) (id 1) 102) 0 []
     -- gap 4,096 runs; 4,097 is refused; no last height is no gap
     ∷ says (connects (state (at 100) 1 0) one-pending [] 4196) 0 []
     ∷ says (connects (state (at 100) 1 0) one-pending [] 4197) 6 []
@@ -122,9 +132,14 @@ edges =
     ∷ leaves-counts (state (at 100) 1 0) one-pending [] 103 33 (replicate columns nought) (decayed 3 one ∷ decayed 2 one ∷ decayed 1 one ∷ replicate 22 nought)
     -- 3.0 through those heights is rounded three times: one multiplication by a power gives another number
     ∷ leaves-counts (state (at 100) 0 0) (lent (first-count (decimal 3 1)) no-counts [] []) [] 103 0 (decayed 3 (decimal 3 1) ∷ replicate 24 nought) (replicate columns nought)
+    -- what is lent past the 3,550 counts is neither judged nor changed
+    ∷ leaves-beyond (state (at 100) 0 0) (lent (no-counts ++ (minus-one ∷ [])) (no-counts ++ (one ∷ [])) [] []) [] 101 (minus-one ∷ []) (one ∷ [])
+    ∷ says (estimates (first-count one ++ (nan ∷ [])) (first-count one ++ (minus-one ∷ [])) 1) 0 (1000 ∷ [])
     -- estimate judges only the counts, at target 0 too
     ∷ says (estimates one-missing no-counts 0) 1 []
     ∷ says (estimates no-counts (first-count (inf true)) 1) 1 []
+    -- target 0 gives none, also of counts that give target 1 a rate
+    ∷ says (estimates (first-count one) (first-count one) 0) 0 []
     -- the resolved sum at least 1.0: one unit of the last place below it is none
     ∷ says (estimates (first-count one) (first-count one) 1) 0 (1000 ∷ [])
     ∷ says (estimates (first-count one) (first-count (decimal 9999999999999999 10000000000000000)) 1) 0 []
