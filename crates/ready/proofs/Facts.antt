@@ -1,16 +1,16 @@
 -- What a step may use of memory that is ready: lengths, sound tables, records in range. Assumes nothing.
 use mathlib.Core.Path.{_≡_, refl, sym, ap, ap₂, _∙_}
 use mathlib.Core.Bool.{true}
-use mathlib.Core.List.{List, map}
+use mathlib.Core.List.{List}
 use Prim.Native.Nat.{ℕ, _≤_}
 use native.Mathlib.Omega.{arith}
 use lib.ListN.{length, take, length-take}
 use lib.Ieee.{Float}
 use Rattle.kinds.specs.declared.State.{State}
-use Rattle.rules.specs.Board.{Board, Lawful, confirmed-size, pending-most, confirmed-most, confirmed-bytes}
+use Rattle.rules.specs.Board.{Board, Lawful, confirmed-size, pending-most, confirmed-most}
 use Rattle.rules.specs.Counts.{places-of-counts}
-use Rattle.rules.specs.Records.{sound-table, laid}
-use Rattle.rules.specs.Memory.{Lent, pending-capacity, confirmed-capacity, pending-records, confirmed-records, lay-pending, lay-confirmed, view, state-of, lay}
+use Rattle.rules.specs.Records.{sound-table}
+use Rattle.rules.specs.Memory.{Lent, lay-pending, lay-confirmed, view, state-of, lay}
 use Rattle.rules.proofs.Memory.{confirmed-kept, state-of-view}
 use Rattle.rules.proofs.Sound.{well-fits, laid-sound, pending-id, confirmed-id}
 use Rattle.ready.specs.Ready.{Ready}

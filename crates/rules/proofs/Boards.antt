@@ -4,12 +4,11 @@ use mathlib.Core.Path.{_≡_, refl, sym, ap₂}
 use mathlib.Core.List.{List, []}
 use Prim.Native.Nat.{ℕ, _≤_}
 use native.Mathlib.Omega.{arith}
-use lib.Dec.{T, lit<}
-use lib.ListN.{length, getD}
+use lib.Dec.{lit<}
+use lib.ListN.{getD}
 use lib.Seq.{length-take-le}
-use lib.Pow.{areBytes}
 use Rattle.kinds.specs.declared.Horizon.{Horizon}
-use Rattle.rules.specs.Board.{Pending, Board, base, wide, board-of, pending-bytes, pending-of, PendingFits, Lawful}
+use Rattle.rules.specs.Board.{Pending, base, wide, board-of, pending-bytes, pending-of, Lawful}
 use Rattle.rules.specs.Records.{records}
 use Rattle.rules.proofs.Memory.{pending-kept}
 use Rattle.rules.proofs.Sound.{number-lt}

@@ -1,11 +1,11 @@
 -- The edges of the wide board, both sides of each: its columns are six blocks wide, its factor is the double nearest to 0.9995, and its confirmed records are
 -- pruned after 25 blocks as on the base board. Computed. Assumes nothing.
 use mathlib.Core.Path.{_≡_, refl}
-use mathlib.Core.List.{List, [], _∷_, map}
+use mathlib.Core.List.{[], _∷_, map}
 use mathlib.Core.Option.{some}
 use Prim.Native.Nat.{ℕ}
 use lib.ListN.{length}
-use lib.Ieee.{Float, binary64, toBits, round}
+use lib.Ieee.{binary64, toBits, round}
 use Rattle.kinds.specs.declared.Last.the-variants.{Nothing}
 use Rattle.rules.specs.Board.{Pending, wide}
 use Rattle.rules.specs.Counts.{nought, one}

@@ -1,10 +1,8 @@
 -- The numbers and the steps of the wide board, as its callers learn them. In each law come the lifetimes, the arguments, the result, and the lent slices at
 -- exit. Assumes nothing.
 use mathlib.Core.Path.{_≡_}
-use mathlib.Core.Bool.{true}
 use contract.Lifetimes.{Lfts}
 use denote.Ref.{now}
-use lib.ListN.{length}
 use Rattle.kinds.specs.declared.Horizon.{Horizon}
 use Rattle.kinds.specs.Answers.{done}
 use Rattle.rules.specs.Lists.{count}
