@@ -4,3 +4,5 @@
 pub mod Pages
 -- the digits of a number
 pub mod Digits
+-- pieces of text, one after the other
+pub mod Pieces

@@ -4,3 +4,5 @@
 pub mod Page
 -- numbers in digits
 pub mod Numerals
+-- text in ASCII codes
+pub mod Text

@@ -19,9 +19,11 @@ use Rattle.format.specs.File.{version-1}
 use Rattle.format.specs.Calls.{read-call}
 use Rattle.format.proofs.Back.{version-1-lawful}
 use Rattle.format.proofs.Again.{accepted-is-sound}
-use Rattle.report.specs.Words.{Text}
-use Rattle.report.specs.Shown.{rate-text, state-lines, target-lines, refusal, told}
-use Rattle.report.specs.Pieces.{carried-rate, answered}
+use Rattle.print.specs.Text.{Text}
+use Rattle.premise.specs.declared.Chain.{Chain}
+use Rattle.premise.specs.Premise.{premise}
+use Rattle.report.specs.Shown.{rate-text, state-lines, target-lines, refusal, told, told-of}
+use Rattle.report.specs.Rates.{carried-rate, answered}
 use Rattle.report.proofs.Targets.{lines-same}
 
 carried-is : (o : Option ℕ) → carried-rate (rate-answer o .carries) ≡ rate-text o
@@ -34,21 +36,21 @@ unfolding answered estimate-call
 answered-is s c r p q t = rw (p, q) (carried-is (estimate base t c r))
 
 -- rates count only where the answer is 0
-told-same : (a : Answer) (s : State) (f g : ℕ → Text) → (a .number ≡ 0 → (t : ℕ) → f t ≡ g t) → told a s f ≡ told a s g
+told-same : (chain : Chain) (a : Answer) (s : State) (f g : ℕ → Text) → (a .number ≡ 0 → (t : ℕ) → f t ≡ g t) → told chain a s f ≡ told chain a s g
 unfolding told
-told-same a s f g h = go (eqb (a .number) 0) refl
+told-same chain a s f g h = go (eqb (a .number) 0) refl
   where
-    go : (b : Bool) → eqb (a .number) 0 ≡ b → cond b (state-lines s ++ target-lines f 1 25) (refusal a) ≡ cond b (state-lines s ++ target-lines g 1 25) (refusal a)
-    go true e = ap (λ (l : List Text). state-lines s ++ l) (lines-same f g (h (eqb→eq (a .number) 0 (rw e tt))) 1 25)
+    go : (b : Bool) → eqb (a .number) 0 ≡ b
+        → cond b (premise chain (s .last) ++ (state-lines s ++ target-lines f 1 25)) (refusal a) ≡ cond b (premise chain (s .last) ++ (state-lines s ++ target-lines g 1 25)) (refusal a)
+    go true e = ap (λ (l : List Text). premise chain (s .last) ++ (state-lines s ++ l)) (lines-same f g (h (eqb→eq (a .number) 0 (rw e tt))) 1 25)
     go false e = refl
 
-pub told-is : (l : Lent) (file : List ℕ) → T (areBytes file) → let o = read-call version-1 base l file in
-    told (o .answer) (o .state) (answered (o .state) (o .lent .confirmed) (o .lent .resolved))
-    ≡ told (o .answer) (o .state) (λ t. rate-text (estimate base t (o .lent .confirmed) (o .lent .resolved)))
-unfolding sound
-told-is l file b =
+pub told-is : (chain : Chain) (l : Lent) (file : List ℕ) → T (areBytes file) → let o = read-call version-1 base l file in
+    told chain (o .answer) (o .state) (answered (o .state) (o .lent .confirmed) (o .lent .resolved)) ≡ told-of chain o
+unfolding sound told-of
+told-is chain l file b =
     let o = read-call version-1 base l file in
-    told-same (o .answer) (o .state) _ _ (λ d.
+    told-same chain (o .answer) (o .state) _ _ (λ d.
     let s = accepted-is-sound version-1 version-1-lawful base base-lawful l file b d in
     let rest = and-right (sound-counts (o .lent .confirmed)) _ s in
     answered-is (o .state) (o .lent .confirmed) (o .lent .resolved) (and-left (sound-counts (o .lent .confirmed)) _ s) (and-left (sound-counts (o .lent .resolved)) _ rest))

@@ -1,4 +1,4 @@
--- Laws of what `show` prints.
+-- Laws of what is printed of a file.
 
 -- pieces written one after the other
 pub mod Pieces
@@ -8,6 +8,8 @@ pub mod Targets
 pub mod Short
 -- what an estimate answers after a reading is the estimate itself
 pub mod Answered
+-- what a table held does not matter
+pub mod Alike
 -- the whole: what is put is what is shown
 pub mod Reported
 -- `show` never says Damaged or NoRoom

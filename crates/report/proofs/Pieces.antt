@@ -1,25 +1,14 @@
 -- Pieces written one after the other are the whole text written at once, where there is room for it. Assumes nothing.
-use mathlib.Core.Path.{_≡_, refl, sym, ap, _∙_}
+use mathlib.Core.Path.{_≡_, sym, ap, _∙_}
 use mathlib.Core.List.{List, [], _∷_, _++_}
 use Prim.Native.Nat.{ℕ, _+_, _≤_}
 use native.Mathlib.Omega.{arith}
 use lib.ListN.{length, length-append}
 use lib.Seq.{sets, length-sets}
 use Rattle.rules.specs.Records.{joined}
-use Rattle.print.specs.Page.{Page, page, write}
+use Rattle.print.specs.Page.{page, write, writes}
 use Rattle.print.proofs.Pages.{write-fits, write-write}
-use Rattle.report.specs.Words.{Text}
-use Rattle.report.specs.Pieces.{writes}
-
-pub writes-append : (a b : List Text) (p : Page) → writes (a ++ b) p ≡ writes b (writes a p)
-unfolding writes
-writes-append [] b p = refl
-writes-append (t ∷ a) b p = writes-append a b (write t p)
-
--- what three calls put
-pub three : (s t u : Text) (p : Page) {q r z : Page} → q ≡ write s p → r ≡ write t q → z ≡ write u r → z ≡ writes (s ∷ t ∷ u ∷ []) p
-unfolding writes
-three s t u p a b c = c ∙ ap (write u) (b ∙ ap (write t) a)
+use Rattle.print.specs.Text.{Text}
 
 at-once : (ts : List Text) (bytes : Text) (at : ℕ) → at + length (joined ts) ≤ length bytes → writes ts (page bytes at) ≡ write (joined ts) (page bytes at)
 unfolding writes joined

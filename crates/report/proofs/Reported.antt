@@ -1,7 +1,7 @@
 -- The pieces that are put are those of the file, and there is room for all of them. Assumes nothing.
 use mathlib.Core.Path.{_≡_, sym, ap, _∙_}
 use mathlib.Core.List.{List}
-use Prim.Native.Nat.{ℕ, _≤_, _<_}
+use Prim.Native.Nat.{ℕ, _/_, _≤_, _<_}
 use native.Mathlib.Omega.{arith}
 use borrow.Author.Tests.{lt-ltb, le-ltb}
 use lib.Dec.{T}
@@ -13,40 +13,45 @@ use Rattle.kinds.specs.declared.State.{State}
 use Rattle.kinds.specs.declared.ReadAnswer.{ReadAnswer}
 use Rattle.kinds.specs.Answers.{read-answer}
 use Rattle.rules.specs.Records.{joined}
-use Rattle.rules.specs.Board.{base}
+use Rattle.rules.specs.Board.{base, pending-size, confirmed-size}
 use Rattle.rules.specs.Memory.{Lent}
 use Rattle.rules.specs.Calls.{Outcome, outcome}
 use Rattle.format.specs.File.{version-1}
 use Rattle.format.specs.Calls.{read-call}
-use Rattle.print.specs.Page.{Page, page}
-use Rattle.report.specs.Words.{Text, refused, too-long}
-use Rattle.report.specs.Shown.{line, told, room, longest, pieces, shown}
-use Rattle.report.specs.Pieces.{writes, answered}
+use Rattle.print.specs.Page.{Page, page, writes}
+use Rattle.print.specs.Text.{Text}
+use Rattle.report.specs.Words.{refused, too-long}
+use Rattle.premise.specs.declared.Chain.{Chain}
+use Rattle.report.specs.Shown.{line, told, Reach, reach, pieces, shown, printed}
+use Rattle.report.specs.Rates.{answered}
 use Rattle.report.proofs.Pieces.{whole}
 use Rattle.report.proofs.Answered.{told-is}
+use Rattle.report.proofs.Alike.{over, told-in-room}
 
-module _ (file out : List ℕ) (long : length out ≡ 2048) where
+module _ (r : Reach) (chain : Chain) (file out : List ℕ) (long : length out ≡ 2048) where
   abbrev AllPut : Text → ℕ → Type 0
-  AllPut x r = Counts r x × (page x r ≡ page (sets out 0 (shown file)) (length (shown file)))
+  AllPut x n = Counts n x × (page x n ≡ printed (shown r chain file) out)
 
   -- the file's pieces, where they are short enough, are all that it shows
-  pub all-put : (ts : List Text) → ts ≡ pieces file → length (joined ts) ≤ 2048 → (x : Text) (r : ℕ) → page x r ≡ writes ts (page out 0) → AllPut x r
+  pub all-put : (ts : List Text) → ts ≡ pieces r chain file → length (joined ts) ≤ 2048 → (x : Text) (n : ℕ) → page x n ≡ writes ts (page out 0) → AllPut x n
   unfolding shown
-  all-put ts e h x r put =
-      let p : page x r ≡ page (sets out 0 (joined ts)) (length (joined ts)) = put ∙ whole ts out (omega arith) in
-      let n : r ≡ length (joined ts) = ap (λ (q : Page). q .at) p in
+  all-put ts e h x n put =
+      let p : page x n ≡ page (sets out 0 (joined ts)) (length (joined ts)) = put ∙ whole ts out (omega arith) in
+      let k : n ≡ length (joined ts) = ap (λ (q : Page). q .at) p in
       let m : length x ≡ length out = ap (λ (q : Page). length (q .bytes)) p ∙ length-sets out 0 (joined ts) in
-      ((omega arith, sym (length-take-le r x (omega arith))), p ∙ ap (λ (us : List Text). page (sets out 0 (joined us)) (length (joined us))) e)
+      ((omega arith, sym (length-take-le n x (omega arith))), p ∙ ap (λ (us : List Text). page (sets out 0 (joined us)) (length (joined us))) e)
 
-  pub put-too-long : longest < length file → (x : Text) (r : ℕ) → page x r ≡ writes (line refused too-long) (page out 0) → AllPut x r
+  pub put-too-long : r .longest < length file → (x : Text) (n : ℕ) → page x n ≡ writes (line refused too-long) (page out 0) → AllPut x n
   unfolding pieces line joined
-  put-too-long h = all-put (line refused too-long) (sym (rw (lt-ltb longest (length file) h))) (omega arith)
+  put-too-long h = all-put (line refused too-long) (sym (rw (lt-ltb (r .longest) (length file) h))) (omega arith)
 
--- what a reading tells is what the file's pieces are
-pub told-pieces : (file : List ℕ) → T (areBytes file) → length file ≤ longest → (a : ReadAnswer) (s : State) (l : Lent) → outcome (read-answer a) s l ≡ read-call version-1 base room file
-    → told (read-answer a) s (answered s (l .confirmed) (l .resolved)) ≡ pieces file
+-- what a reading into tables of these lengths tells is what the file's pieces are
+pub told-pieces : (chain : Chain) (file : List ℕ) → T (areBytes file) → (longest : ℕ) → length file ≤ longest → (pending recent : List ℕ) (a : ReadAnswer) (s : State) (l : Lent)
+    → outcome (read-answer a) s l ≡ read-call version-1 base (over pending recent) file
+    → told chain (read-answer a) s (answered s (l .confirmed) (l .resolved)) ≡ pieces (reach (length pending / pending-size) (length recent / confirmed-size) longest) chain file
 unfolding pieces
-told-pieces file b h a s l e =
-    ap (λ (o : Outcome Lent). told (o .answer) (o .state) (answered (o .state) (o .lent .confirmed) (o .lent .resolved))) e
-    ∙ told-is room file b
+told-pieces chain file b longest h pending recent a s l e =
+    ap (λ (o : Outcome Lent). told chain (o .answer) (o .state) (answered (o .state) (o .lent .confirmed) (o .lent .resolved))) e
+    ∙ told-is chain (over pending recent) file b
+    ∙ told-in-room chain pending recent longest file
     ∙ sym (rw (le-ltb longest (length file) h))

@@ -2,7 +2,7 @@
 use mathlib.Core.Path.{_≡_}
 use mathlib.Core.Bool.{Bool, true, false, cond}
 use mathlib.Core.List.{List, [], _∷_, _++_}
-use Prim.Native.Nat.{ℕ, zero, suc, _+_, _*_, _/_, _%_, _≤_}
+use Prim.Native.Nat.{ℕ, zero, suc, _+_, _*_, _-_, _/_, _%_, _≤_}
 use native.Mathlib.Omega.{arith}
 use lib.Dec.{ltb}
 use lib.ListN.{length, length-append}
@@ -13,10 +13,14 @@ use Rattle.kinds.specs.declared.State.{State}
 use Rattle.kinds.specs.declared.ReadAnswer.{ReadAnswer}
 use Rattle.kinds.specs.Answers.{read-answer}
 use Rattle.rules.specs.Records.{joined}
+use Rattle.rules.specs.Calls.{widest-gap}
 use Rattle.print.specs.Numerals.{decimal-in, decimal}
-use Rattle.report.specs.Words.{Text}
+use Rattle.print.specs.Text.{Text}
+use Rattle.premise.specs.declared.Chain.{Chain}
+use Rattle.premise.specs.declared.Chain.the-variants.{Untold, Tip}
+use Rattle.premise.specs.Premise.{between, ahead, behind, level, beside, no-last, premise}
 use Rattle.report.specs.Shown.{line, last-text, state-lines, target-lines, name, carried, refusal, told}
-use Rattle.report.specs.Pieces.{carried-rate, answered}
+use Rattle.report.specs.Rates.{carried-rate, answered}
 
 decimal-in-short : (k n : ℕ) → length (decimal-in k n) ≤ k
 unfolding decimal-in
@@ -63,14 +67,30 @@ lines-short f h t (suc n) =
     let i = lines-short f h (suc t) n in
     simp length-append (omega arith)
 
-pub told-short : (a : ReadAnswer) (s : State) (f : ℕ → Text) → ((t : ℕ) → length (f t) ≤ 20) → length (joined (told (read-answer a) s f)) ≤ 2048
+beside-short : (h n : ℕ) → length (joined (beside h n)) ≤ 250
+unfolding joined beside ahead behind level between
+beside-short h n = go (ltb n h) (ltb widest-gap (n - h)) (decimal-short h) (decimal-short n)
+  where
+    go : (b c : Bool) → length (decimal h) ≤ 20 → length (decimal n) ≤ 20 → length (joined (cond b (ahead h n) (cond c (behind h n) (level h n)))) ≤ 250
+    go true c d e = simp length-append (omega arith)
+    go false true d e = simp length-append (omega arith)
+    go false false d e = simp length-append (omega arith)
+
+premise-short : (chain : Chain) (l : Last) → length (joined (premise chain l)) ≤ 250
+unfolding joined premise no-last
+premise-short Untold l = omega arith
+premise-short (Tip n) Nothing = omega arith
+premise-short (Tip n) (At h) = beside-short (h .0) (n .0)
+
+pub told-short : (chain : Chain) (a : ReadAnswer) (s : State) (f : ℕ → Text) → ((t : ℕ) → length (f t) ≤ 20) → length (joined (told chain (read-answer a) s f)) ≤ 2048
 unfolding told refusal name carried joined
-told-short ReadAnswer.Done s f h = omega (arith, length-joined (state-lines s) (target-lines f 1 25), state-short s, lines-short f h 1 25)
-told-short ReadAnswer.Damaged s f h = omega arith
-told-short ReadAnswer.BadMagic s f h = omega arith
-told-short (ReadAnswer.UnknownVersion v) s f h = simp length-append (omega (arith, decimal-short v))
-told-short ReadAnswer.Corrupt s f h = omega arith
-told-short ReadAnswer.NoRoom s f h = omega arith
+told-short chain ReadAnswer.Done s f h =
+    omega (arith, length-joined (premise chain (s .last)) (state-lines s ++ target-lines f 1 25), premise-short chain (s .last), length-joined (state-lines s) (target-lines f 1 25), state-short s, lines-short f h 1 25)
+told-short chain ReadAnswer.Damaged s f h = omega arith
+told-short chain ReadAnswer.BadMagic s f h = omega arith
+told-short chain (ReadAnswer.UnknownVersion v) s f h = simp length-append (omega (arith, decimal-short v))
+told-short chain ReadAnswer.Corrupt s f h = omega arith
+told-short chain ReadAnswer.NoRoom s f h = omega arith
 
 pub answered-short : (s : State) (confirmed resolved : List Float) (t : ℕ) → length (answered s confirmed resolved t) ≤ 20
 unfolding answered

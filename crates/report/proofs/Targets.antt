@@ -4,11 +4,11 @@ use mathlib.Core.List.{List, _∷_}
 use Prim.Native.Nat.{ℕ, zero, suc, _+_, _-_, _≤_, _<_}
 use native.Mathlib.Numerals.{add-one}
 use native.Mathlib.Omega.{arith}
-use Rattle.print.specs.Page.{Page, write}
+use Rattle.print.specs.Page.{Page, write, writes}
 use Rattle.print.specs.Numerals.{decimal}
-use Rattle.report.specs.Words.{Text, space, end}
+use Rattle.print.specs.Text.{Text}
+use Rattle.report.specs.Words.{space, end}
 use Rattle.report.specs.Shown.{target-lines}
-use Rattle.report.specs.Pieces.{writes}
 
 module _ (rate : ℕ → Text) where
   -- one line of four pieces

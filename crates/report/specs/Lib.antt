@@ -1,8 +1,8 @@
--- What `show` prints.
+-- What is printed of a file.
 
 -- its words
 pub mod Words
 -- its lines
 pub mod Shown
--- pieces of text, written one after the other
-pub mod Pieces
+-- the text of what an estimate answers
+pub mod Rates

@@ -1,10 +1,12 @@
--- What `show` prints of a history file, in document 01's words. A line is told in pieces. Assumes nothing.
+-- What `show` and `inspect` print of a history file, in document 01's words: one definition, over how much a program takes in and the chain's height. A line is told in
+-- pieces. Assumes nothing.
 use Prim.Native.Nat.{ℕ, zero, suc, _*_}
 use mathlib.Core.Bool.{cond}
 use mathlib.Core.List.{List, [], _∷_, _++_}
 use mathlib.Core.Option.{Option, none, some}
 use lib.Dec.{ltb, eqb}
 use lib.ListN.{length, replicate}
+use lib.Seq.{sets}
 use Rattle.kinds.specs.declared.Last.{Last}
 use Rattle.kinds.specs.declared.Last.the-variants.{Nothing, At}
 use Rattle.kinds.specs.declared.State.{State}
@@ -14,10 +16,15 @@ use Rattle.rules.specs.Records.{joined}
 use Rattle.rules.specs.Board.{base, pending-size, confirmed-size}
 use Rattle.rules.specs.Estimate.{estimate}
 use Rattle.rules.specs.Memory.{Lent, lent}
+use Rattle.rules.specs.Calls.{Outcome}
 use Rattle.format.specs.File.{version-1}
 use Rattle.format.specs.Calls.{read-call}
+use Rattle.print.specs.Page.{Page, page}
 use Rattle.print.specs.Numerals.{decimal}
-use Rattle.report.specs.Words.{Text, height, pending, confirmed, refused, space, dash, end, damaged, bad-magic, unknown-version, corrupt, no-room, too-long}
+use Rattle.premise.specs.declared.Chain.{Chain}
+use Rattle.premise.specs.Premise.{premise}
+use Rattle.print.specs.Text.{Text}
+use Rattle.report.specs.Words.{height, pending, confirmed, refused, space, dash, end, damaged, bad-magic, unknown-version, corrupt, no-room, too-long}
 
 -- a word and what is told of it, on a line
 unfoldable pub line : Text → Text → List Text
@@ -55,25 +62,45 @@ carried (n ∷ ns) = space ∷ decimal n ∷ carried ns
 unfoldable pub refusal : Answer → List Text
 refusal a = refused ∷ name (a .number) ∷ (carried (a .carries) ++ (end ∷ []))
 
--- what is told of a reading: its answer, its state, and the rate of each target
-unfoldable pub told : Answer → State → (ℕ → Text) → List Text
-told a s rate = cond (eqb (a .number) 0) (state-lines s ++ target-lines rate 1 columns) (refusal a)
+-- what is told of a reading: its answer, its state, and the rate of each target; before all else, whether the file goes with the chain
+unfoldable pub told : Chain → Answer → State → (ℕ → Text) → List Text
+told chain a s rate = cond (eqb (a .number) 0) (premise chain (s .last) ++ (state-lines s ++ target-lines rate 1 columns)) (refusal a)
 
--- room for 172 pending and 210 confirmed records
-unfoldable pub room : Lent
-room = lent (replicate places-of-counts nought) (replicate places-of-counts nought) (replicate (172 * pending-size) 0) (replicate (210 * confirmed-size) 0)
+-- what is told of a file, once it is read
+unfoldable pub told-of : Chain → Outcome Lent → List Text
+told-of chain o = told chain (o .answer) (o .state) (λ t. rate-text (estimate base t (o .lent .confirmed) (o .lent .resolved)))
 
--- the most bytes that are read
-abbrev pub longest : ℕ
-longest = 65536
+-- how much a program takes in: so many pending and confirmed records, and so many bytes
+pub record Reach : Type 0 where
+  pub pending : ℕ
+  pub recent : ℕ
+  pub longest : ℕ
+
+-- these three
+abbrev pub reach : ℕ → ℕ → ℕ → Reach
+reach pending recent longest = record { pending = pending; recent = recent; longest = longest }
+
+-- `show`: at most 65,536 bytes, with room for 172 pending and 210 confirmed records
+abbrev pub of-show : Reach
+of-show = reach 172 210 65536
+
+-- `inspect`: room for 10,000 pending and 75,000 confirmed records, and the bytes of a file that has a height and so many
+abbrev pub of-inspect : Reach
+of-inspect = reach 10000 75000 3197965
+
+-- room for so many records
+unfoldable pub room : Reach → Lent
+room r =
+    lent (replicate places-of-counts nought) (replicate places-of-counts nought) (replicate (r .pending * pending-size) 0) (replicate (r .recent * confirmed-size) 0)
 
 -- A longer input prints `refused TooLong`; any other, what its reading tells.
-unfoldable pub pieces : List ℕ → List Text
-pieces file =
-    let o = read-call version-1 base room file in
-    cond (ltb longest (length file)) (line refused too-long)
-    (told (o .answer) (o .state) (λ t. rate-text (estimate base t (o .lent .confirmed) (o .lent .resolved))))
+unfoldable pub pieces : Reach → Chain → List ℕ → List Text
+pieces r chain file = cond (ltb (r .longest) (length file)) (line refused too-long) (told-of chain (read-call version-1 base (room r) file))
 
--- everything that `show` prints of a file
-unfoldable pub shown : List ℕ → Text
-shown file = joined (pieces file)
+-- everything that is printed of a file
+unfoldable pub shown : Reach → Chain → List ℕ → Text
+shown r chain file = joined (pieces r chain file)
+
+-- a page that has that text at its start
+abbrev pub printed : Text → Text → Page
+printed text bytes = page (sets bytes 0 text) (length text)

@@ -1,61 +1,50 @@
--- The words that `show` prints, in ASCII codes. Assumes nothing.
-use Prim.Native.Nat.{ℕ}
-use mathlib.Core.List.{List, [], _∷_}
+-- The words that are printed of a file. Assumes nothing.
+use Rattle.print.specs.Text.{Text, codes}
 
--- text, as ASCII codes
-abbrev pub Text : Type 0
-Text = List ℕ
-
--- `height `
+-- before the last height
 abbrev pub height : Text
-height = 104 ∷ 101 ∷ 105 ∷ 103 ∷ 104 ∷ 116 ∷ 32 ∷ []
+height = codes "height "
 
--- `pending `
+-- before the number of pending records
 abbrev pub pending : Text
-pending = 112 ∷ 101 ∷ 110 ∷ 100 ∷ 105 ∷ 110 ∷ 103 ∷ 32 ∷ []
+pending = codes "pending "
 
--- `confirmed `
+-- before the number of confirmed records
 abbrev pub confirmed : Text
-confirmed = 99 ∷ 111 ∷ 110 ∷ 102 ∷ 105 ∷ 114 ∷ 109 ∷ 101 ∷ 100 ∷ 32 ∷ []
+confirmed = codes "confirmed "
 
--- `refused `
+-- before the name of an answer
 abbrev pub refused : Text
-refused = 114 ∷ 101 ∷ 102 ∷ 117 ∷ 115 ∷ 101 ∷ 100 ∷ 32 ∷ []
+refused = codes "refused "
 
--- a space
+-- between a target and its rate, and before a version
 abbrev pub space : Text
-space = 32 ∷ []
+space = codes " "
 
--- `-`
+-- in place of a height or a rate
 abbrev pub dash : Text
-dash = 45 ∷ []
+dash = codes "-"
 
 -- the end of a line
 abbrev pub end : Text
-end = 10 ∷ []
+end = codes "\n"
 
 -- ---- document 01's names of the answers
 
--- `Damaged`
 abbrev pub damaged : Text
-damaged = 68 ∷ 97 ∷ 109 ∷ 97 ∷ 103 ∷ 101 ∷ 100 ∷ []
+damaged = codes "Damaged"
 
--- `BadMagic`
 abbrev pub bad-magic : Text
-bad-magic = 66 ∷ 97 ∷ 100 ∷ 77 ∷ 97 ∷ 103 ∷ 105 ∷ 99 ∷ []
+bad-magic = codes "BadMagic"
 
--- `UnknownVersion`
 abbrev pub unknown-version : Text
-unknown-version = 85 ∷ 110 ∷ 107 ∷ 110 ∷ 111 ∷ 119 ∷ 110 ∷ 86 ∷ 101 ∷ 114 ∷ 115 ∷ 105 ∷ 111 ∷ 110 ∷ []
+unknown-version = codes "UnknownVersion"
 
--- `Corrupt`
 abbrev pub corrupt : Text
-corrupt = 67 ∷ 111 ∷ 114 ∷ 114 ∷ 117 ∷ 112 ∷ 116 ∷ []
+corrupt = codes "Corrupt"
 
--- `NoRoom`
 abbrev pub no-room : Text
-no-room = 78 ∷ 111 ∷ 82 ∷ 111 ∷ 111 ∷ 109 ∷ []
+no-room = codes "NoRoom"
 
--- `TooLong`
 abbrev pub too-long : Text
-too-long = 84 ∷ 111 ∷ 111 ∷ 76 ∷ 111 ∷ 110 ∷ 103 ∷ []
+too-long = codes "TooLong"

@@ -5,17 +5,21 @@ use kinds::Estimated;
 use kinds::Last;
 use kinds::MAX_CONF_TARGET;
 use kinds::State;
+use premise::Chain;
+use premise::put_premise;
 use print::put;
 use print::put_byte;
 use print::put_decimal;
 ghost use mathlib.Core.Path.{_≡_};
 ghost use Rattle.kinds.specs.Answers.{unknown-version, estimate-answer};
 ghost use Rattle.rules.specs.Counts.{columns};
-ghost use Rattle.print.specs.Page.{page, write};
+ghost use mathlib.Core.List.{_++_};
+ghost use Rattle.print.specs.Page.{page, write, writes};
 ghost use Rattle.print.specs.Numerals.{decimal};
+ghost use Rattle.premise.specs.Premise.{premise};
 ghost use Rattle.report.specs.Words.{height, refused};
 ghost use Rattle.report.specs.Shown.{line, last-text, state-lines, target-lines, refusal};
-ghost use Rattle.report.specs.Pieces.{writes, carried-rate, answered};
+ghost use Rattle.report.specs.Rates.{carried-rate, answered};
 
 // A word and what is told of it.
 fn put_line(out: &mut [u8], at: usize, word: &[u8], text: &[u8]) -> usize
@@ -54,7 +58,7 @@ fn put_last(out: &mut [u8], at: usize, last: Last) -> usize
 }
 
 // The last height and the used numbers.
-pub(crate) fn put_state(out: &mut [u8], at: usize, state: State) -> usize
+fn put_state(out: &mut [u8], at: usize, state: State) -> usize
     ensures { λ r. ⌜ page (now (out .exit)) r ≡ writes (state-lines state) (page (now (out .entry)) at) ⌝ }
 {
     let last = state.last;
@@ -106,7 +110,7 @@ fn put_target(
 const TARGETS: u32 = MAX_CONF_TARGET as u32;
 
 // Each target and its rate.
-pub(crate) fn put_targets(
+fn put_targets(
     out: &mut [u8],
     from: usize,
     state: State,
@@ -122,4 +126,24 @@ pub(crate) fn put_targets(
         t += 1;
     }
     at
+}
+
+// What is told of a file that was accepted, from the start of the page: whether it goes with the chain, the state, and the rates.
+pub(crate) fn put_accepted(
+    out: &mut [u8],
+    chain: Chain,
+    state: State,
+    confirmed: &[f64],
+    resolved: &[f64],
+) -> usize
+    ensures { λ r. ⌜
+        page (now (out .exit)) r
+        ≡ writes
+        (premise chain (state .last) ++ (state-lines state ++ target-lines (answered state (now (confirmed .entry)) (now (resolved .entry))) 1 columns))
+        (page (now (out .entry)) 0) ⌝ }
+{
+    let last = state.last;
+    let a = put_premise(out, 0, chain, last);
+    let b = put_state(out, a, state);
+    put_targets(out, b, state, confirmed, resolved)
 }

@@ -1,15 +1,11 @@
-// Reads a history file on standard input and prints its estimates: what is printed is in `report`. One byte more than the longest file is read, to see that it
-// is too long.
+// Reads a history file on standard input and prints its estimates: how it is read is in `views`, what is printed in `report`.
+use libc::STDERR_FILENO;
 use libc::STDIN_FILENO;
 use libc::STDOUT_FILENO;
-use report::LONGEST;
-use report::PAGE;
 
-// Reads the file, and prints what `report` makes of it.
+// Reads the file, and prints what it tells.
 fn main() {
-    let mut file = [0u8; LONGEST + 1];
-    let n = io::read_full(STDIN_FILENO, &mut file);
-    let mut out = [0u8; PAGE];
-    let k = report::report(&file[..n], &mut out);
-    io::write_all(STDOUT_FILENO, &out[..k]);
+    if !views::show(STDIN_FILENO, STDOUT_FILENO) {
+        io::write_all(STDERR_FILENO, b"show: the output is lost\n");
+    }
 }

@@ -4,7 +4,6 @@ use denote.Ref.{now}
 use lib.Ieee.{ofBits}
 use lib.ListN.{length}
 use Rattle.rules.proofs.Bytes.{are-bytes}
-use Rattle.report.specs.Shown.{room}
 use Rattle.report.proofs.Short.{answered-short, told-short}
 use Rattle.report.proofs.Reported.{all-put, put-too-long, told-pieces}
 use borrow.Author.Needs.{needs}
@@ -13,19 +12,24 @@ use Rattle.report.proofs.report.Tie as tie
 
 returns : tie.Need-returns
 returns c =
-    let s = c .before .before .before .before .before in
-    let n : length (now (s .args .out)) ≡ 2048 = search needs in
-    put-too-long (now (s .args .file)) (now (s .args .out)) n (c .before .before .before .if1 .taken) _ _ (c .put-refused .ensures)
+    let t = c .before .before .before in
+    let a = t .before .before .before .before .args in
+    let n : length (now (a .out)) ≡ 2048 = search needs in
+    put-too-long _ (a .chain) (now (a .file)) (now (a .out)) n (t .if1 .taken) _ _ (c .put-refused .ensures)
 
 returns-2 : tie.Need-returns-2
-unfolding room ofBits
+unfolding ofBits
 returns-2 c =
-    let s = c .before .before .before .before .before .before .before .before .before .before .before .before .before .before .before .before in
-    let n : length (now (s .args .out)) ≡ 2048 = search needs in
-    let b = are-bytes (now (s .args .file)) (λ i. c .before .before .before .before .before .before .before .before .before .before .before .before .before .before .before .shared-slice-known .given i .fits) in
-    let r = c .before .before .before .before .before .before .before .before .before .from-history-bytes in
-    all-put (now (s .args .file)) (now (s .args .out)) n _ (told-pieces (now (s .args .file)) b (c .before .before .before .before .before .before .before .before .before .before .before .before .before .before .if1 .left) (r .result .answer) (r .result .state) _ (r .ensures))
-    (told-short (r .result .answer) (r .result .state) _ (answered-short (r .result .state) _ _)) _ _ (c .tell .ensures)
+    let h = c .before .before .before .before .before .before .before .before .before .before .before in
+    let t = h .before .before .before .before .before in
+    let k = t .before .before .before in
+    let a = k .before .args in
+    let n : length (now (a .out)) ≡ 2048 = search needs in
+    let b = are-bytes (now (a .file)) (λ i. k .shared-slice-known .given i .fits) in
+    let r = h .from-history-bytes in
+    all-put _ (a .chain) (now (a .file)) (now (a .out)) n _
+    (told-pieces (a .chain) (now (a .file)) b (a .longest) (t .if1 .left) (now (a .pending)) (now (a .recent)) (r .result .answer) (r .result .state) _ (r .ensures))
+    (told-short (a .chain) (r .result .answer) (r .result .state) _ (answered-short (r .result .state) _ _)) _ _ (c .tell .ensures)
 
 pub report-spec : {M : Type 1} → statement M
 report-spec =
@@ -36,10 +40,10 @@ report-spec =
     returns
     (λ c. search needs)
     (λ c. search needs)
-    (λ c. search needs)
-    (λ c. search needs)
     (λ c κs. search needs)
     (λ c. search needs)
     (λ c. search needs)
     (λ c κs. search needs)
+    (λ c. search needs)
+    (λ c. search needs)
     returns-2)

@@ -4,11 +4,10 @@ use Prim.Native.Nat.{ℕ}
 use denote.Ref.{now}
 use Rattle.kinds.specs.declared.ReadAnswer.{ReadAnswer}
 use Rattle.kinds.specs.Answers.{read-answer}
-use Rattle.print.specs.Page.{Page, page}
-use Rattle.report.specs.Words.{Text}
-use Rattle.report.specs.Shown.{line, state-lines, target-lines, name, carried, refusal, told}
-use Rattle.report.specs.Pieces.{writes, answered}
-use Rattle.report.proofs.Pieces.{writes-append}
+use Rattle.print.specs.Page.{Page, page, writes}
+use Rattle.print.specs.Text.{Text}
+use Rattle.report.specs.Shown.{line, name, carried, refusal, told}
+use Rattle.report.specs.Rates.{answered}
 use borrow.Author.Needs.{needs}
 use Rattle.report.proofs.tell.Statement.{statement}
 use Rattle.report.proofs.tell.Tie as tie
@@ -21,17 +20,15 @@ abbrev rates : tie.Start → ℕ → Text
 rates k = answered (k .args .state) (now (k .args .confirmed)) (now (k .args .resolved))
 
 -- what is told of the answer that it is
-as-told : (k : tie.Start) (a : ReadAnswer) {z : Page} → k .args .answer ≡ a → z ≡ writes (told (read-answer a) (k .args .state) (rates k)) (first k)
-    → z ≡ writes (told (read-answer (k .args .answer)) (k .args .state) (rates k)) (first k)
-as-told k a e h = h ∙ ap (λ (x : ReadAnswer). writes (told (read-answer x) (k .args .state) (rates k)) (first k)) (sym e)
+as-told : (k : tie.Start) (a : ReadAnswer) {z : Page} → k .args .answer ≡ a → z ≡ writes (told (k .args .chain) (read-answer a) (k .args .state) (rates k)) (first k)
+    → z ≡ writes (told (k .args .chain) (read-answer (k .args .answer)) (k .args .state) (rates k)) (first k)
+as-told k a e h = h ∙ ap (λ (x : ReadAnswer). writes (told (k .args .chain) (read-answer x) (k .args .state) (rates k)) (first k)) (sym e)
 
 returns : tie.Need-returns
 unfolding told
 returns c =
-    let k = c .before .before .before .before .before .before .before .before .before .before .before .before .before in
-    let all = target-lines (rates k) 1 25 in
-    as-told k _ (c .before .before .before .before .before .before .before .before .enum-told .given .1)
-    (c .before .before .put-targets .ensures ∙ ap (writes all) (c .before .before .before .before .before .before .put-state .ensures) ∙ sym (writes-append (state-lines (k .args .state)) all (first k)))
+    let t = c .before .before .before .before in
+    as-told (t .before .before .before .before .before) _ (t .enum-told .given .1) (c .before .before .put-accepted .ensures)
 
 returns-2 : tie.Need-returns-2
 unfolding told refusal name carried line
@@ -58,7 +55,6 @@ tell-spec =
     tie.close
     (tie.spec
     (λ c. search needs)
-    (λ c κs. search needs)
     (λ c κs. search needs)
     (λ c. search needs)
     (λ c. search needs)

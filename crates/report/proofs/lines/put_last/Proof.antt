@@ -2,10 +2,9 @@
 use mathlib.Core.Path.{sym, ap, _∙_}
 use Rattle.kinds.specs.declared.Last.{Last}
 use denote.Ref.{now}
-use Rattle.print.specs.Page.{page}
+use Rattle.print.specs.Page.{page, writes}
 use Rattle.report.specs.Words.{height}
 use Rattle.report.specs.Shown.{line, last-text}
-use Rattle.report.specs.Pieces.{writes}
 use borrow.Author.Needs.{needs}
 use Rattle.report.proofs.lines.put_last.Statement.{statement}
 use Rattle.report.proofs.lines.put_last.Tie as tie

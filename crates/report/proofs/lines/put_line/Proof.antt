@@ -1,6 +1,6 @@
 -- `report::lines::put_line` meets its contract. Assumes nothing.
 use Rattle.report.specs.Shown.{line}
-use Rattle.report.proofs.Pieces.{three}
+use Rattle.print.proofs.Pieces.{three}
 use borrow.Author.Needs.{needs}
 use Rattle.report.proofs.lines.put_line.Statement.{statement}
 use Rattle.report.proofs.lines.put_line.Tie as tie

@@ -10,8 +10,9 @@ use Rattle.kinds.specs.declared.Estimated.{Estimated}
 use Rattle.kinds.proofs.Estimated.{the-type}
 use Rattle.kinds.specs.Answers.{estimate-answer}
 use Rattle.print.specs.Page.{page, write}
-use Rattle.report.specs.Words.{Text, dash}
-use Rattle.report.specs.Pieces.{carried-rate}
+use Rattle.print.specs.Text.{Text}
+use Rattle.report.specs.Words.{dash}
+use Rattle.report.specs.Rates.{carried-rate}
 use borrow.Author.Needs.{needs}
 use Rattle.report.proofs.lines.put_rate.Statement.{statement}
 use Rattle.report.proofs.lines.put_rate.Tie as tie

@@ -3,7 +3,7 @@ use mathlib.Core.Path.{ap, _∙_}
 use Rattle.print.specs.Numerals.{decimal}
 use Rattle.report.specs.Words.{pending, confirmed}
 use Rattle.report.specs.Shown.{line, state-lines}
-use Rattle.report.specs.Pieces.{writes}
+use Rattle.print.specs.Page.{writes}
 use borrow.Author.Needs.{needs}
 use Rattle.report.proofs.lines.put_state.Statement.{statement}
 use Rattle.report.proofs.lines.put_state.Tie as tie

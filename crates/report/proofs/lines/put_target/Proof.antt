@@ -2,7 +2,7 @@
 use mathlib.Core.Path.{ap}
 use denote.Ref.{now}
 use Rattle.kinds.specs.Answers.{Answer}
-use Rattle.report.specs.Pieces.{carried-rate, answered}
+use Rattle.report.specs.Rates.{carried-rate, answered}
 use Rattle.report.proofs.Targets.{one-line}
 use borrow.Author.Needs.{needs}
 use Rattle.report.proofs.lines.put_target.Statement.{statement}

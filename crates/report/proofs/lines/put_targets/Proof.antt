@@ -4,7 +4,7 @@ use Prim.Native.Nat.{_-_}
 use native.Mathlib.Omega.{arith}
 use lib.ListN.{length}
 use Rattle.print.specs.Page.{page}
-use Rattle.report.specs.Pieces.{answered}
+use Rattle.report.specs.Rates.{answered}
 use Rattle.report.proofs.Targets.{Left, start, next, stop}
 use borrow.Author.Needs.{needs}
 use Rattle.report.proofs.lines.put_targets.Statement.{statement}

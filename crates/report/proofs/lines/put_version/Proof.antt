@@ -1,10 +1,9 @@
 -- `report::lines::put_version` meets its contract. Assumes nothing.
 use mathlib.Core.Path.{ap, _∙_}
-use Rattle.print.specs.Page.{write}
+use Rattle.print.specs.Page.{write, writes}
 use Rattle.print.specs.Numerals.{decimal}
 use Rattle.report.specs.Words.{space, unknown-version}
 use Rattle.report.specs.Shown.{line, name, carried, refusal}
-use Rattle.report.specs.Pieces.{writes}
 use borrow.Author.Needs.{needs}
 use Rattle.report.proofs.lines.put_version.Statement.{statement}
 use Rattle.report.proofs.lines.put_version.Tie as tie

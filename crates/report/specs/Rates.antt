@@ -1,18 +1,13 @@
--- Text written piece by piece, and the text of what an estimate answers. Assumes nothing.
+-- The text of what an estimate answers. Assumes nothing.
 use Prim.Native.Nat.{ℕ}
 use mathlib.Core.List.{List, [], _∷_}
 use lib.Ieee.{Float}
 use Rattle.kinds.specs.declared.State.{State}
 use Rattle.rules.specs.Board.{base}
 use Rattle.rules.specs.Calls.{estimate-call}
-use Rattle.print.specs.Page.{Page, write}
 use Rattle.print.specs.Numerals.{decimal}
-use Rattle.report.specs.Words.{Text, dash}
-
--- one piece after the other
-unfoldable pub writes : List Text → Page → Page
-writes [] p = p
-writes (t ∷ ts) p = writes ts (write t p)
+use Rattle.print.specs.Text.{Text}
+use Rattle.report.specs.Words.{dash}
 
 -- the rate that an answer carries, or `-`
 unfoldable pub carried-rate : List ℕ → Text
