@@ -1,4 +1,4 @@
--- The digits that `io::decimal` and `io::hex` write are those of the definitions, since there is one fewest number of digits. Assumes nothing.
+-- The digits that `io::decimal` writes are those of the definitions, since there is one fewest number of digits. Assumes nothing.
 use mathlib.Core.Path.{_≡_, refl, ap}
 use mathlib.Core.Bool.{Bool, true, false}
 use mathlib.Core.List.{List, _++_, [], _∷_}
@@ -8,7 +8,7 @@ use native.Mathlib.Omega.{arith}
 use borrow.Author.Tests.{le-ltb, lt-ltb, ltb-true, ltb-false}
 use lib.Dec.{ltb}
 use Rattle.io.specs.Digits.{digits, Fewest}
-use Rattle.print.specs.Numerals.{decimal-in, decimal, hex8}
+use Rattle.print.specs.Numerals.{decimal-in, decimal}
 
 -- where k digits hold n, the fewest are at most k
 at-most : (b least n r k : ℕ) → 0 < b → least ≤ k → n < b ^ k → Fewest b least n r → r ≤ k
@@ -45,10 +45,3 @@ decimal-is zero n h f = absurd (not-suc-le-zero (f .0))
 decimal-is (suc r) n h f =
     let e : suc r - 1 ≡ r = omega arith in
     decimal-by r 20 n (at-most 10 1 n (suc r) 20 (omega arith) (omega arith) (omega arith) f) (f .1) (λ z. rw e at (f .2 (omega arith)))
-
-pub hex-is : (r n : ℕ) → n < 2 ^ 32 → Fewest 16 8 n r → digits 16 r n ≡ hex8 n
-unfolding hex8
-hex-is r n h f =
-    let m : r ≤ 8 = at-most 16 8 n r 8 (omega arith) (omega arith) (omega arith) f in
-    let e : r ≡ 8 = omega (arith, f .0) in
-    ap (λ (k : ℕ). digits 16 k n) e

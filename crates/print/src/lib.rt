@@ -3,7 +3,7 @@
 ghost use mathlib.Core.Path.{_≡_};
 ghost use mathlib.Core.List.{[], _∷_};
 ghost use Rattle.print.specs.Page.{page, write};
-ghost use Rattle.print.specs.Numerals.{decimal, hex8};
+ghost use Rattle.print.specs.Numerals.{decimal};
 
 // Puts the byte b.
 pub fn put_byte(out: &mut [u8], at: usize, b: u8) -> usize
@@ -36,14 +36,5 @@ pub fn put_decimal(out: &mut [u8], at: usize, n: u64) -> usize
 {
     let mut text = [0u8; 20];
     let k = io::decimal(n, &mut text);
-    put(out, at, &text[..k])
-}
-
-// Puts the eight hexadecimal digits of n, in lower case.
-pub fn put_hex(out: &mut [u8], at: usize, n: u32) -> usize
-    ensures { λ r. ⌜ page (now (out .exit)) r ≡ write (hex8 n) (page (now (out .entry)) at) ⌝ }
-{
-    let mut text = [0u8; 16];
-    let k = io::hex(n as u64, 8, &mut text);
     put(out, at, &text[..k])
 }
