@@ -63,20 +63,13 @@ build() { # says what it does, and which crate it is at
 }
 if [ ! -x "$program" ] || changed; then build; fi
 
-# ---- the run. Programs are for x86-64; on another processor the kit has an emulator.
-run=("$program")
-if [ "$(uname -m)" != x86_64 ]; then
-    command -v rt >/dev/null || die "rt is not on the path: the Rattle kit has the emulator that the program needs here"
-    kit=$(dirname "$(dirname "$(rt doc)")")
-    emulator=$(find "$kit" -path '*/bin/qemu-x86_64' -print -quit)
-    lib=$(dirname "$(dirname "$emulator")")/lib
-    run=("$emulator" "$lib/ld-linux-x86-64.so.2" --library-path "$lib" "$program")
-fi
+# ---- the run
 [ -z "$file" ] || exec <"$file"
-text=$("${run[@]}" ${words[@]+"${words[@]}"}) || die "the program ended with status $? (it needs a stack of 8 MB: ulimit -s)"
+text=$("$top/tools/x86-64" "$program" ${words[@]+"${words[@]}"}) || die "the program ended with status $? (it needs a stack of 8 MB: ulimit -s)"
 [ -n "$text" ] || die "the program printed nothing"
 printf '%s\n' "$text" 2>/dev/null || { echo "$name: the output is lost" >&2; exit 1; }
 case $text in
 "refused TooLong") [ "$name" = inspect ] || echo "show: the file has more than 65,536 bytes: ./inspect takes more" >&2; exit 1 ;;
 refused*) exit 1 ;;
+"premise fails"*) exit 3 ;;
 esac
