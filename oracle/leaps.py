@@ -4,12 +4,13 @@ The library crosses such a gap by empty blocks at most 4,096 heights apart, each
 with --any-gap; all other lines must be the same."""
 
 import random
+import re
 
 from flavours import restore, roomy
 from histories import any_file
 from walk import TOP, Walk
 
-STEP = b"# step\n"
+STEPS = re.compile(rb"^# step\nblock [0-9]+$", re.MULTILINE)
 WIDEST = 4_096
 SILENT = (b"lend", b"byte", b"count", b"state")
 
@@ -21,7 +22,7 @@ def leap(walk, height):
     while height - at > WIDEST or uneven and height - at > 1 and rng.random() < 0.5:
         far = min(WIDEST, height - at - 1)
         at += rng.randint(max(1, far - 40), far) if uneven else far
-        walk.lines += [STEP.decode().strip(), f"block {at}"]
+        walk.lines += ["# step", f"block {at}"]
     walk.block(height)
 
 
@@ -45,19 +46,14 @@ def script(seed, number):
 
 
 def without_steps(text):
-    """The script as the oracle runs it."""
-    head, *parts = text.split(STEP)
-    return head + b"".join(part.partition(b"\n")[2] for part in parts)
+    """The script as the oracle runs it, every line at its number."""
+    return STEPS.sub(b"# step\n#", text)
 
 
 def without_answers(text, lines):
-    """What the port printed, but for the answers of the steps that it took."""
-    steps, step = [], False
-    for line in text.split(b"\n"):
-        if line.startswith(b"#") or not line:
-            step = step or line + b"\n" == STEP
-        elif line.split(b" ")[0] not in SILENT:
-            steps.append(step)
-            step = False
-    taken = [step and line == "0" for step, line in zip(steps, lines)]
-    return [line for line, gone in zip(lines, taken + [False] * (len(lines) - len(taken))) if not gone]
+    """What the port printed, but for the answers of the steps that it took; a step that it did not take is marked."""
+    marked = STEPS.sub(b"# step\nstep", text)
+    words = [line.split(b" ")[0] for line in marked.split(b"\n") if line and not line.startswith(b"#")]
+    steps = [word == b"step" for word in words if word not in SILENT]
+    steps += [False] * (len(lines) - len(steps))
+    return [f"step: {line}" if step else line for line, step in zip(lines, steps) if not (step and line == "0")]
