@@ -56,13 +56,17 @@ pub struct History {
 }
 
 /// A history at HEIGHT, with so many records of each kind. Entries and confirmations are spread over the last 25 heights, and resolved-through is what a
-/// run would have left.
-pub fn history(pending: usize, confirmed: usize, reversed: bool) -> History {
+/// run would have left. Every `apart`-th bucket is in use, from the lowest: the others' counts are zero.
+pub fn history(pending: usize, confirmed: usize, reversed: bool, apart: u64) -> History {
     let mut numbers = Numbers::new(1);
     let fresh = original::FeeEstimator::new().to_history_bytes();
     let (head, rows) = (&fresh[..12], &fresh[13..57_953]);
     let mut bytes = [head, &[1], &HEIGHT.to_le_bytes(), &rows[..4]].concat();
-    for row in rows[4..].chunks_exact(408) {
+    for (bucket, row) in (0..BUCKETS).zip(rows[4..].chunks_exact(408)) {
+        if bucket % apart != 0 {
+            bytes.extend(row);
+            continue;
+        }
         bytes.extend(&row[..8]);
         let resolved: Vec<f64> = (0..TARGETS).map(|_| numbers.below(1_000_000) as f64 / 4_096.0).collect();
         let confirmed = resolved.iter().map(|count| count * 0.875);
@@ -82,7 +86,7 @@ pub fn history(pending: usize, confirmed: usize, reversed: bool) -> History {
     let count = |list: &[Id]| u32::try_from(list.len()).expect("a count of 32 bits").to_le_bytes();
     bytes.extend(count(&pending));
     for id in &pending {
-        let bucket = u32::try_from(numbers.below(BUCKETS)).expect("a bucket");
+        let bucket = u32::try_from(numbers.below(BUCKETS.div_ceil(apart)) * apart).expect("a bucket");
         let through = numbers.below_u32(TARGETS);
         bytes.extend(id);
         bytes.extend([bucket, HEIGHT - through, through].iter().flat_map(|field| field.to_le_bytes()));

@@ -8,6 +8,8 @@ use std::str::FromStr;
 
 /// How often a call is made where one makes no great difference to the next.
 const OFTEN: u32 = 100;
+/// On a sparse board one bucket of so many is in use: 21 of the 142.
+const SPARSE: u64 = 7;
 
 /// A call, by its name in the table.
 #[derive(Clone, Copy, PartialEq)]
@@ -27,6 +29,8 @@ pub struct Row {
     call: Call,
     pending: usize,
     confirmed: usize,
+    /// Every bucket is in use, or every so many-th.
+    apart: u64,
     judging: bool,
 }
 
@@ -38,12 +42,16 @@ pub struct Work {
 
 impl Row {
     const fn of(call: Call, pending: usize, confirmed: usize) -> Self {
-        Self { call, pending, confirmed, judging: false }
+        Self { call, pending, confirmed, apart: 1, judging: false }
+    }
+
+    const fn sparse(self) -> Self {
+        Self { apart: SPARSE, ..self }
     }
 
     /// The history of the state.
     pub fn history(&self) -> History {
-        history(self.pending, self.confirmed, self.call == Call::Read { reversed: true })
+        history(self.pending, self.confirmed, self.call == Call::Read { reversed: true }, self.apart)
     }
 
     /// The calls in that state.
@@ -131,7 +139,9 @@ pub fn all() -> Vec<Row> {
             }
         }
     }
-    rows.push(Row::of(Call::Gap(izrughem::WIDEST_GAP), 1_000, 7_500));
+    rows.push(Row::of(Call::Block(0), 1_000, 7_500).sparse());
+    let gap = Row::of(Call::Gap(izrughem::WIDEST_GAP), 1_000, 7_500);
+    rows.extend([gap, gap.sparse()]);
     rows.push(Row::of(Call::Estimate(1), 1_000, 7_500));
     rows.push(Row::of(Call::Estimate(25), 1_000, 7_500));
     for (pending, confirmed) in [(1_000, 7_500), (10_000, 75_000)] {
@@ -143,7 +153,8 @@ pub fn all() -> Vec<Row> {
     rows
 }
 
-/// As `block-300-1000-7500`: the call, its number if it has one, and the records of the state; with `judging-` before it for the judging alone.
+/// As `block-300-1000-7500`: the call, its number if it has one, and the records of the state; with `-sparse` behind it on a sparse board, and `judging-` before it
+/// for the judging alone.
 impl fmt::Display for Row {
     fn fmt(&self, f: &mut fmt::Formatter<'_>) -> fmt::Result {
         if self.judging {
@@ -159,7 +170,8 @@ impl fmt::Display for Row {
             Call::Read { reversed: false } => f.write_str("read-rising"),
             Call::Read { reversed: true } => f.write_str("read-reversed"),
         }?;
-        write!(f, "-{}-{}", self.pending, self.confirmed)
+        write!(f, "-{}-{}", self.pending, self.confirmed)?;
+        if self.apart == SPARSE { f.write_str("-sparse") } else { Ok(()) }
     }
 }
 

@@ -7,6 +7,8 @@
 use crate::Txid;
 
 #[cfg(test)]
+mod pages;
+#[cfg(test)]
 mod tests;
 
 /// The state: whether there is a last height, the height, and how many pending and confirmed records are used.

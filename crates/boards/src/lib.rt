@@ -16,6 +16,7 @@ pub use waits::waited;
 ghost use mathlib.Core.Path.{_≡_};
 ghost use Prim.Native.Nat.{_≤_, _<_};
 ghost use Rattle.rules.specs.Board.{board-of, pending-size};
+ghost use Rattle.floats.specs.Factor.{Factor};
 
 // How many bytes a pending record takes: at least an id and three numbers.
 pub fn record_size(on: Horizon) -> usize
@@ -39,9 +40,10 @@ pub fn width_of(on: Horizon) -> Blocks
     }
 }
 
-// What every count is multiplied by at a height.
+// What every count is multiplied by at a height: above 0 and at most 1.
 pub fn factor_of(on: Horizon) -> f64
     ensures { λ r. ⌜ r ≡ board-of on .decay ⌝ }
+    ensures { λ r. ⌜ Factor r ⌝ }
 {
     match on {
         Horizon::Base => DECAY_FACTOR,

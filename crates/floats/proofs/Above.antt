@@ -10,7 +10,8 @@ use lib.Ieee.Fits.{up-pos}
 use lib.Ieee.Positive.{positive, above, cross→le, above-of-le, mul-mono}
 use Rattle.rules.specs.Counts.{decimal, finite, sound-count}
 use Rattle.floats.proofs.Fit.{fit}
-use Rattle.floats.proofs.Count.{Counted, Factor, decay-counted}
+use Rattle.floats.specs.Factor.{Factor}
+use Rattle.floats.proofs.Count.{Counted, decay-counted}
 
 -- 2 ^ -1074
 abbrev pub smallest : Float

@@ -11,7 +11,8 @@ use Rattle.rules.specs.Ids.{Id}
 use Rattle.rules.specs.Counts.{places-of-counts}
 use Rattle.rules.specs.Board.{Board, Pending}
 use Rattle.rules.specs.Estimator.{Estimator, fresh, find, holds, tx-left, wait, record-confirmation, advance-height, advances, advance-heights, skip-heights, confirm, confirm-all, finish-block, block-connected}
-use Rattle.floats.proofs.Count.{Counted, Factor}
+use Rattle.floats.specs.Factor.{Factor}
+use Rattle.floats.proofs.Count.{Counted}
 use Rattle.floats.proofs.Steps.{all-nought, all-gain, all-decay, all-expire}
 
 pub record Steady (e : Estimator) : Type 0 where

@@ -13,7 +13,8 @@ use Rattle.rules.specs.Estimator.{outwaited, expire-targets}
 use Rattle.rules.proofs.All.{All, none, more, all-map}
 use Rattle.rules.proofs.Records.{and-left, and-right}
 use Rattle.rules.proofs.Sound.{every-of}
-use Rattle.floats.proofs.Count.{Counted, zero-counted, one-more-counted, Factor, decay-counted}
+use Rattle.floats.specs.Factor.{Factor}
+use Rattle.floats.proofs.Count.{Counted, zero-counted, one-more-counted, decay-counted}
 use Rattle.rules.specs.Board.{Board, Pending}
 
 -- sound counts that are binary64 numbers, as those of a slice are

@@ -15,7 +15,8 @@ use lib.Ieee.Order.{round-mono}
 use lib.Ieee.Positive.{num, den, den-pos, value→cross}
 use Rattle.rules.specs.Counts.{nought, one, one-more}
 use Rattle.floats.proofs.Fit.{exact-pos}
-use Rattle.floats.proofs.Count.{Factor, factor-unsigned, times-bound}
+use Rattle.floats.specs.Factor.{Factor}
+use Rattle.floats.proofs.Count.{factor-unsigned, times-bound}
 use Rattle.floats.proofs.Unsigned.{Unsigned, number, unsigned-one, unsigned-of-value, le→cross, rounds-unsigned, add-is, mul-is, add-mono, one-more-le}
 
 pub record Tame (n : ℕ) (x : Float) : Type 0 where

@@ -1,6 +1,6 @@
 -- Numbers that are finite and have no sign, zero among them: each is a fraction num / den, their order is that of the fractions, and a sum, a product or a
 -- quotient of two is one rounding, which keeps the order. Assumes nothing.
-use mathlib.Core.Path.{_≡_, refl, sym, ap, subst}
+use mathlib.Core.Path.{_≡_, refl, sym, ap, subst, _∙_}
 use mathlib.Core.Bool.{Bool, true, false, _&&_, _||_, true≢false}
 use Prim.Native.Nat.{ℕ, _+_, _*_, _^_, _≤_, _<_}
 use native.Mathlib.Nat.{le-refl, le-of-eq, le-of-lt, mul-pos, mul-le-mul-right, zero-lt-suc}
@@ -11,7 +11,8 @@ use lib.Dec.{T, ltb, eqb, ltb→lt, eqb→eq}
 use lib.Ieee.{Float, nan, inf, fin, binary64, low, up, down, round, fits, add, mul, div, le, lt}
 use lib.Ieee.Exact.{HasValue}
 use lib.Ieee.Order.{le-of-values, round-mono}
-use lib.Ieee.Scale.{finite as is-finite, grid, round-val, round-under}
+use lib.Ieee.Fits.{down-pos}
+use lib.Ieee.Scale.{finite as is-finite, grid, round-val, round-under, round-same}
 use lib.Ieee.Positive.{num, den, den-pos, through}
 use Rattle.rules.specs.Counts.{nought, one, one-more, finite, sound-count}
 use Rattle.floats.proofs.Fit.{own-rounding}
@@ -96,6 +97,15 @@ mul-is (number m e) (number n d) = refl
 pub div-is : {x y : Float} → Unsigned x → Unsigned y → 0 < num y → div binary64 x y ≡ round binary64 false (num x * den y) (num y * den x)
 unfolding div
 div-is (number m e) (number n d) h = rw (ne-eqb n 0 (λ z. omega (arith, ap (λ (k : ℕ). k * up d) z)))
+
+-- a zero times such a number is that zero, with its sign
+zero-fraction : (s : Bool) (a c : ℕ) → a ≡ 0 → 0 < c → round binary64 s a c ≡ fin s 0 (pos 0)
+zero-fraction s a c e C = round-same binary64 s a c 0 1 C (zero-lt-suc 0) (omega arith) ∙ zero-round s
+
+pub zero-times : (s : Bool) {d : Float} → Unsigned d → mul binary64 (fin s 0 (pos 0)) d ≡ fin s 0 (pos 0)
+unfolding mul
+zero-times true (number n g) = zero-fraction true (0 * 1 * (n * up g)) (1 * down g) (omega arith) (mul-pos (zero-lt-suc 0) (down-pos g))
+zero-times false (number n g) = zero-fraction false (0 * 1 * (n * up g)) (1 * down g) (omega arith) (mul-pos (zero-lt-suc 0) (down-pos g))
 
 -- ---- and the order after them
 

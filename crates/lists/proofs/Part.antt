@@ -6,7 +6,7 @@ use Prim.Native.Nat.{ℕ, _+_, _*_, _≤_, _<_}
 use native.Mathlib.Nat.{suc-mul}
 use native.Mathlib.Numerals.{add-one}
 use native.Mathlib.Omega.{arith}
-use lib.ListN.{length, take, drop, getD, length-drop, length-map, List·getD-append}
+use lib.ListN.{length, take, drop, getD, length-drop, length-map, take-append-drop, List·getD-append}
 use lib.Seq.{length-take-le, take-add, drop-drop, drop-at, take-at, take-all, getD-take, getD-drop, getD-append-add, length-paste, length-paste-head}
 use Rattle.lists.specs.Upto.{upto}
 use Rattle.lists.specs.Part.{part, part-put}
@@ -20,6 +20,12 @@ module _ {A : Type 0} (w b : ℕ) (xs : List A) where
 
   pub getD-part : (i : ℕ) (z : A) → i < w → getD (part w b xs) i z ≡ getD xs (b * w + i) z
   getD-part i z h = getD-take w (drop (b * w) xs) i z h ∙ getD-drop (b * w) xs i z
+
+  -- a part put back where it stood changes nothing
+  pub put-same : b * w + w ≤ length xs → part-put w b (part w b xs) xs ≡ xs
+  put-same h =
+      let k : take w (part w b xs) ≡ part w b xs = take-all w (part w b xs) (omega (arith, length-part h)) in
+      rw (k, ← take-add (b * w) w xs) (take-append-drop (b * w + w) xs)
 
   front : (f : A → A) (n : ℕ) → n ≤ length xs → length (map f (take n xs)) ≡ n
   front f n h = length-map (take n xs) f ∙ length-take-le n xs h

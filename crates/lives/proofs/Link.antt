@@ -7,7 +7,7 @@ use Prim.Native.Nat.{ℕ}
 use Rattle.rules.specs.Board.{Board, Lawful}
 use Rattle.rules.specs.Memory.{Lent}
 use Rattle.rules.specs.Calls.{Outcome}
-use Rattle.floats.proofs.Count.{Factor}
+use Rattle.floats.specs.Factor.{Factor}
 use Rattle.format.specs.File.{Version}
 use Rattle.format.specs.Calls.{Output}
 use Rattle.meaning.specs.Runs.{Rising, enter, leave, connect, with-table, outcome-of, noted, after}

@@ -13,7 +13,7 @@ use Rattle.rules.specs.Estimator.{fresh}
 use Rattle.rules.specs.Memory.{Lent, enough, sound, view, state-of}
 use Rattle.rules.specs.Calls.{Outcome, outcome, refused, accepted, start-call}
 use Rattle.rules.proofs.Refusals.{DoneOrAsGiven, is-done, as-given, start-refused}
-use Rattle.floats.proofs.Count.{Factor}
+use Rattle.floats.specs.Factor.{Factor}
 use Rattle.format.specs.File.{Version, history-of}
 use Rattle.format.specs.Calls.{Output, write-call, read-call}
 use Rattle.format.proofs.Refusals.{read-refused}

@@ -21,7 +21,7 @@ use Rattle.rules.specs.Estimate.{estimate}
 use Rattle.rules.specs.Memory.{Lent, pending-capacity, confirmed-capacity, pending-records, sound-counts, sound-pending, sound, view}
 use Rattle.rules.specs.Calls.{Outcome, refused, accepted, accepted-pending, enter-call, leave-call, gap, widest-gap, ids-of, pending-listings, block-call, rate-answer, estimate-call}
 use Rattle.rules.proofs.Records.{and-left, and-right}
-use Rattle.floats.proofs.Count.{Factor}
+use Rattle.floats.specs.Factor.{Factor}
 use Rattle.meaning.specs.Runs.{Log, last-of, Rising, singly, Call, enter, leave, connect, Held, outcome-of, calls}
 use Rattle.meaning.specs.Fates.{admissions, pends, Meant}
 use Rattle.meaning.specs.Answered.{waiting, too-far, foretold, Answered, AnswerPromise}

@@ -9,7 +9,8 @@ use lib.Dec.{T, eqb, lit<}
 use lib.Ieee.{Float, binary64, mul, le}
 use Rattle.rules.specs.Lists.{bit}
 use Rattle.rules.specs.Board.{Board}
-use Rattle.floats.proofs.Count.{Factor, factor-unsigned}
+use Rattle.floats.specs.Factor.{Factor}
+use Rattle.floats.proofs.Count.{factor-unsigned}
 use Rattle.floats.proofs.Unsigned.{le-trans, mul-mono}
 use Rattle.floats.proofs.Tame.{Tame, nought-tame, one-more-tame, decay-tame, one-more-grows, one-more-mono}
 use Rattle.meaning.specs.Runs.{arrival, removal, block, Log, begin, _▸_}

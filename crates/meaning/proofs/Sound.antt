@@ -5,7 +5,7 @@ use Rattle.rules.specs.Board.{Board, Lawful}
 use Rattle.rules.specs.Estimator.{tx-entered, tx-left}
 use Rattle.rules.specs.Memory.{Lent, sound}
 use Rattle.rules.proofs.Sound.{lay-sound}
-use Rattle.floats.proofs.Count.{Factor}
+use Rattle.floats.specs.Factor.{Factor}
 use Rattle.floats.proofs.Steps.{all-sound}
 use Rattle.floats.proofs.Steady.{Steady, steady-fresh, steady-block}
 use Rattle.meaning.specs.Runs.{arrival, removal, block, Log, begin, _▸_, Held, calls}

@@ -16,7 +16,7 @@ use Rattle.rules.specs.Ladder.{buckets}
 use Rattle.rules.specs.Counts.{Counts, columns, nought, cell}
 use Rattle.rules.specs.Board.{Board, Lawful}
 use Rattle.rules.specs.Estimate.{column-of, column, Sums, add-bucket, sums-down-to, rate-in-column, estimate}
-use Rattle.floats.proofs.Count.{Factor}
+use Rattle.floats.specs.Factor.{Factor}
 use Rattle.floats.proofs.Unsigned.{unsigned-one, unsigned-sound, le→cross, add-mono}
 use Rattle.floats.proofs.Tame.{nought-tame, add-tame}
 use Rattle.floats.proofs.Ratio.{Ratio, ratio}

@@ -26,7 +26,7 @@ use Rattle.rules.proofs.Well.{Well, well-block}
 use Rattle.rules.proofs.Sound.{lay-sound}
 use Rattle.rules.proofs.Listed.{listings-of}
 use Rattle.rules.proofs.Room.{Within, within-none, then, count-le, within-block}
-use Rattle.floats.proofs.Count.{Factor}
+use Rattle.floats.specs.Factor.{Factor}
 use Rattle.floats.proofs.Steady.{Steady, steady-block}
 use Rattle.ready.proofs.Ready.{seen, relaid, same-recent}
 use Rattle.ready.proofs.Stays.{Typed, counts-sound, steady, well, room, used-recent}

@@ -30,7 +30,8 @@ use Rattle.rules.proofs.Well.{newcomer, Well, well-fresh, well-entered, well-le
 use Rattle.rules.proofs.Sound.{SoundCounts, view-well, lay-sound}
 use Rattle.rules.proofs.Room.{length-keep, length-insert, within-block}
 use Rattle.rules.proofs.Listed.{ids-sized}
-use Rattle.floats.proofs.Count.{Counted, Factor}
+use Rattle.floats.specs.Factor.{Factor}
+use Rattle.floats.proofs.Count.{Counted}
 use Rattle.floats.proofs.Steps.{all-counted, all-sound}
 use Rattle.floats.proofs.Steady.{Steady, steady-block, steady-fresh}
 

@@ -36,7 +36,7 @@ pub width : (κs : Lfts 0) (r : _) (e : _) → width-of.Learnt κs (Horizon.Wide
 width κs r e p = p .0
 
 pub factor : (κs : Lfts 0) (r : _) (e : _) → factor-of.Learnt κs (Horizon.Wide, tt) r e → r ≡ decimal 9995 10000
-factor κs r e p = p
+factor κs r e p = p .0
 
 pub covers : (κs : Lfts 0) (t : _) (r : _) (e : _) → column.Learnt κs (t, (Horizon.Wide, tt)) r e → r ≡ column-of wide (t .0)
 covers κs t r e p = p

@@ -26,7 +26,7 @@ apply-decay-requires c κs =
     let s = c .before .before .before .before .before .before .before .before .before .before .before .before .before .before in
     let k = board-of (s .args .on) in
     let n = resolved-places k (board-lawful (s .args .on)) (s .args .state) (given s) (s .pre) in
-    (confirmed-places k (board-lawful (s .args .on)) (s .args .state) (given s) (s .pre), omega (arith, c .before .before .before .before .before .before .before .expire-pending .kept .0))
+    ((confirmed-places k (board-lawful (s .args .on)) (s .args .state) (given s) (s .pre), omega (arith, c .before .before .before .before .before .before .before .expire-pending .kept .0)), c .factor-of .ensures .1)
 
 prune-confirmed-requires : tie.Need-prune-confirmed-requires
 prune-confirmed-requires c κs =
@@ -42,7 +42,7 @@ returns c =
     let expired = c .before .before .before .before .before .before .before .before .before .before .before .before .before .before .before .before .expire-pending in
     let s = c .before .before .before .before .before .before .before .before .before .before .before .before .before .before .before .before .before .before .before .before .before .before .before in
     advanced (s .args .on) (s .args .state) (given s) (s .pre) (s .args .h) _ (expired .result) (pruned .result) (aged .last .0) (expired .last .0) (aged .last .1 .0) (expired .last .1 .0) (pruned .last .0)
-    (factor .ensures) (are-bytes (expired .last .1 .0) (λ i. w .slice-known6 .given i .fits)) (are-bytes (pruned .last .0) (λ i. c .slice-known9 .given i .fits))
+    (factor .ensures .0) (are-bytes (expired .last .1 .0) (λ i. w .slice-known6 .given i .fits)) (are-bytes (pruned .last .0) (λ i. c .slice-known9 .given i .fits))
     (expired .ensures .0) (expired .ensures .1 .0) (expired .ensures .1 .1) (aged .ensures .0) (aged .ensures .1) (pruned .ensures .0) (pruned .ensures .1)
 
 pub advance-height-spec : {M : Type 1} → statement M
