@@ -1,7 +1,7 @@
 -- Rows that hold only zeros: how a row is tested, its last count first; and that a row which is not stored because it is empty is as if it had been, since the
 -- decay leaves its bits as they are. Assumes nothing.
 use mathlib.Core.Path.{_≡_, refl, sym, ap, subst, _∙_}
-use mathlib.Core.Bool.{Bool, true, false, not, true≢false, cond, _&&_}
+use mathlib.Core.Bool.{Bool, true, false, cond, _&&_}
 use mathlib.Core.List.{List}
 use Prim.Native.Nat.{ℕ, _+_, _*_, _≤_, _<_}
 use native.Mathlib.Omega.{arith}
@@ -9,6 +9,7 @@ use lib.Dec.{T}
 use lib.ListN.{length, take, getD}
 use lib.Seq.{length-take-le, getD-take}
 use lib.Ieee.{Float, nan, binary64, ofBits, fits, eq, ne}
+use borrow.Author.Tests.{not-true, not-false}
 use Rattle.rules.specs.Lists.{every}
 use Rattle.rules.specs.Counts.{Counts, apply-decay, is-zero, empty-row}
 use Rattle.floats.specs.Factor.{Factor}
@@ -19,7 +20,7 @@ use Rattle.lists.proofs.Part.{length-part, getD-part, put-same}
 use Rattle.lists.proofs.Lists.{and-true, and-false, every-last}
 
 -- the source's `x == 0.0`
-pub tested : (x : Float) → eq x (ofBits binary64 0) ≡ is-zero x
+tested : (x : Float) → eq x (ofBits binary64 0) ≡ is-zero x
 tested x = ap (eq x) zero-is ∙ zero-tested x
 
 -- the row of bucket b but for its last count
@@ -30,34 +31,30 @@ module _ (b : ℕ) (xs : Counts) (h : b * 25 + 25 ≤ length xs) where
   abbrev row : Counts
   row = part 25 b xs
 
+  abbrev last : Float
+  last = getD xs (b * 25 + 24) nan
+
   pub length-front : length (front b xs) ≡ 24
   length-front = length-take-le 24 row (omega (arith, length-part 25 b xs h))
 
-  pub getD-front : (i : ℕ) → i < 24 → getD (front b xs) i nan ≡ getD xs (b * 25 + i) nan
-  getD-front i k = getD-take 24 row i nan k ∙ getD-part 25 b xs i nan (omega arith)
+  -- count i of the front, tested where it stands in the slice
+  pub front-tested : (i : ℕ) → i < 24 → eq (getD xs (b * 25 + i) nan) (ofBits binary64 0) ≡ is-zero (getD (front b xs) i nan)
+  front-tested i k = tested (getD xs (b * 25 + i) nan) ∙ ap is-zero (sym (getD-take 24 row i nan k ∙ getD-part 25 b xs i nan (omega arith)))
 
-  -- the whole row is empty where its front and its last count are
-  empty-is : empty-row row ≡ every is-zero (front b xs) && is-zero (getD xs (b * 25 + 24) nan)
+  -- a row is empty where its front and its last count are
+  empty-is : empty-row row ≡ (empty-row (front b xs) && is-zero last)
   unfolding empty-row
   empty-is = every-last is-zero row 24 nan (length-part 25 b xs h) ∙ ap (λ (x : Float). every is-zero (front b xs) && is-zero x) (getD-part 25 b xs 24 nan (omega arith))
 
   -- a last count that is not zero
-  pub last-counts : ne (getD xs (b * 25 + 24) nan) (ofBits binary64 0) ≡ true → false ≡ empty-row row
+  pub last-counts : ne last (ofBits binary64 0) ≡ true → false ≡ empty-row row
   unfolding ne
-  last-counts e = go _ (tested (getD xs (b * 25 + 24) nan)) e
-    where
-      go : (t : Bool) → t ≡ is-zero (getD xs (b * 25 + 24) nan) → not t ≡ true → false ≡ empty-row row
-      go true q k = absurd (true≢false (sym k))
-      go false q k = sym (empty-is ∙ ap (λ (t : Bool). every is-zero (front b xs) && t) (sym q) ∙ and-false (every is-zero (front b xs)))
+  last-counts e = sym (empty-is ∙ ap (λ (t : Bool). empty-row (front b xs) && t) (sym (tested last) ∙ not-true _ e) ∙ and-false (empty-row (front b xs)))
 
-  -- a last count that is zero: the others tell
-  pub front-tells : ne (getD xs (b * 25 + 24) nan) (ofBits binary64 0) ≡ false → every is-zero (front b xs) ≡ empty-row row
+  -- a last count that is zero: the front tells
+  pub front-tells : ne last (ofBits binary64 0) ≡ false → empty-row (front b xs) ≡ empty-row row
   unfolding ne
-  front-tells e = go _ (tested (getD xs (b * 25 + 24) nan)) e
-    where
-      go : (t : Bool) → t ≡ is-zero (getD xs (b * 25 + 24) nan) → not t ≡ false → every is-zero (front b xs) ≡ empty-row row
-      go false q k = absurd (true≢false k)
-      go true q k = sym (empty-is ∙ ap (λ (t : Bool). every is-zero (front b xs) && t) (sym q) ∙ and-true (every is-zero (front b xs)))
+  front-tells e = sym (empty-is ∙ ap (λ (t : Bool). empty-row (front b xs) && t) (sym (tested last) ∙ not-false _ e) ∙ and-true (empty-row (front b xs)))
 
   -- ---- the decay of a row whose counts are binary64 numbers, as each place of a lent slice is
 

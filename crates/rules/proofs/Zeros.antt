@@ -27,13 +27,13 @@ zeros-told = refl
 
 -- zeros of one sign or of both; one count more, in the first column or in the last; and one zero among ones
 pub rows-told : map empty-row (
-      replicate columns nought
-      ∷ replicate columns minus-nought
-      ∷ (replicate 12 nought ++ replicate 13 minus-nought)
-      ∷ (least-above ∷ replicate 24 nought)
-      ∷ (replicate 24 nought ++ (least-above ∷ []))
-      ∷ (nought ∷ replicate 24 one)
-      ∷ [])
+    replicate columns nought
+    ∷ replicate columns minus-nought
+    ∷ (replicate 12 nought ++ replicate 13 minus-nought)
+    ∷ (least-above ∷ replicate 24 nought)
+    ∷ (replicate 24 nought ++ (least-above ∷ []))
+    ∷ (nought ∷ replicate 24 one)
+    ∷ [])
     ≡ true ∷ true ∷ true ∷ false ∷ false ∷ false ∷ []
 unfolding empty-row is-zero every
 rows-told = refl

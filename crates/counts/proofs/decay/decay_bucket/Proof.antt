@@ -35,9 +35,9 @@ returns-2 c =
     let known = first .before .before in
     let s = known .before .before in (
       stored (s .args .b) (now (s .args .confirmed)) (within s .0) (s .pre .1) (λ i. known .before .slice-known .given i) _ _ _
-      (first .row-is-empty .ensures) (out .decayed .ensures .0 ∙ ap (apply-decay (s .args .factor)) (out .before .bucket-out .ensures .0)) (kept .put-back .ensures),
+          (first .row-is-empty .ensures) (out .decayed .ensures .0 ∙ ap (apply-decay (s .args .factor)) (out .before .bucket-out .ensures .0)) (kept .put-back .ensures),
       stored (s .args .b) (now (s .args .resolved)) (within s .1) (s .pre .1) (λ i. known .slice-known2 .given i) _ _ _
-      (second .row-is-empty2 .ensures) (out .decayed .ensures .1 ∙ ap (apply-decay (s .args .factor)) (out .before .bucket-out .ensures .1)) (c .before .before .put-back2 .ensures),
+          (second .row-is-empty2 .ensures) (out .decayed .ensures .1 ∙ ap (apply-decay (s .args .factor)) (out .before .bucket-out .ensures .1)) (c .before .before .put-back2 .ensures),
     )
 
 pub decay-bucket-spec : {M : Type 1} → statement M
