@@ -272,28 +272,6 @@ def count_cases():
                 sum -> any"""
 
 
-def zero_row_cases():
-    """Rows of zeros, of either sign, which a height does not store (request L2), beside rows of which one count is not zero: the last, the first, one between."""
-    least = 5e-324  # times 0.998 it rounds to itself
-
-    def board(one):
-        rows = [all_targets(3, -0.0), all_targets(4, -0.0, first=13), [(5, 25, least)], [(6, 1, least)], [(7, 12, one)]]
-        return sum(rows + [all_targets(8, -0.0)[:24] + [(8, 25, one)], all_targets(9, -0.0)[1:] + [(9, 1, one)], all_targets(141, one)], [])
-
-    for title, kinds in ("confirmed", ["confirmed"]), ("resolved", ["resolved"]), ("both kinds", ["confirmed", "resolved"]):
-        yield f"rows of zeros, {title}", f"""
-            {memory("-", **{kind: board(1.0) for kind in kinds})}
-            block 100 -> 0
-            sum -> any
-            {laid(100, **{kind: board(decayed(1)) for kind in kinds})}
-            block 140 -> 0
-            sum -> any
-            {laid(140, **{kind: board(decayed(41)) for kind in kinds})}
-            write 58000 -> any
-            again -> 0
-            sum -> same"""
-
-
 def capacity_cases():
     yield "pending full", """
         lend 88 0 3550 3550
@@ -376,10 +354,34 @@ def large_cases():
         blockraw 3 {ids}00 -> 5"""
 
 
+def zero_row_cases():
+    """Rows of zeros, of either sign, which a height does not store (request L2), beside rows that hold one count: the last, the first, or one between."""
+    least = 5e-324  # times 0.998 it rounds to itself
+
+    def board(one):
+        zeros = all_targets(3, -0.0) + all_targets(4, -0.0, first=13)
+        among_zeros = [(5, 25, least), (6, 1, least), (7, 12, one)]
+        among_minus_zeros = all_targets(8, -0.0)[:-1] + [(8, 25, one), (9, 1, one)] + all_targets(9, -0.0, first=2)
+        return zeros + among_zeros + among_minus_zeros + all_targets(141, one)
+
+    for title, kinds in ("confirmed", ["confirmed"]), ("resolved", ["resolved"]), ("both kinds", ["confirmed", "resolved"]):
+        yield f"rows of zeros, {title}", f"""
+            {memory("-", **{kind: board(1.0) for kind in kinds})}
+            block 100 -> 0
+            sum -> any
+            {laid(100, **{kind: board(decayed(1)) for kind in kinds})}
+            block 140 -> 0
+            sum -> any
+            {laid(140, **{kind: board(decayed(41)) for kind in kinds})}
+            write 58000 -> any
+            again -> 0
+            sum -> same"""
+
+
 def scripts():
     """Each case's title, the bytes of its script, and for each printed line the answer, `any`, or the number of the line that it repeats."""
-    makers = rate_cases, worked_cases, expiry_cases, gap_cases, estimate_cases, file_cases, record_cases, count_cases, zero_row_cases, capacity_cases, large_cases
-    for maker in makers:
+    makers = rate_cases, worked_cases, expiry_cases, gap_cases, estimate_cases, file_cases, record_cases, count_cases, capacity_cases, large_cases
+    for maker in (*makers, zero_row_cases):
         for title, text in maker():
             yield title, *script(text)
 

@@ -1,43 +1,20 @@
--- `counts::decay::decay_bucket` meets its contract: a row that is not stored is empty, and stands as it would be stored. Assumes nothing.
-use mathlib.Core.Path.{_≡_, sym, ap, _∙_}
-use Prim.Native.Nat.{ℕ, _+_, _*_, _≤_}
-use native.Mathlib.Omega.{arith}
+-- `counts::decay::decay_bucket` meets its contract, by either way. Assumes nothing.
+use mathlib.Core.Path.{ap, _∙_}
 use denote.Ref.{now}
-use lib.ListN.{length}
 use borrow.Author.Needs.{needs}
-use Rattle.rules.specs.Counts.{apply-decay}
-use Rattle.rules.proofs.Records.{and-left, and-right}
-use Rattle.counts.proofs.Empty.{skipped, stored}
+use Rattle.rules.specs.Counts.{Counts, apply-decay}
+use Rattle.lists.specs.Part.{part-put}
 use Rattle.counts.proofs.decay.decay_bucket.Statement.{statement}
 use Rattle.counts.proofs.decay.decay_bucket.Tie as tie
 
--- the row lies within either slice
-within : (s : tie.Start) → (s .args .b * 25 + 25 ≤ length (now (s .args .confirmed))) × (s .args .b * 25 + 25 ≤ length (now (s .args .resolved)))
-within s = (omega arith, omega arith)
-
 returns : tie.Need-returns
 returns c =
-    let second = c .before in
-    let first = second .before .before in
-    let known = first .before .before in
-    let s = known .before .before in
-    let both = c .if1 .taken in (
-      skipped (s .args .b) (now (s .args .confirmed)) (within s .0) (s .pre .1) (λ i. known .before .slice-known .given i) (sym (first .row-is-empty .ensures) ∙ and-left (first .row-is-empty .result) (second .row-is-empty2 .result) both),
-      skipped (s .args .b) (now (s .args .resolved)) (within s .1) (s .pre .1) (λ i. known .slice-known2 .given i) (sym (second .row-is-empty2 .ensures) ∙ and-right (first .row-is-empty .result) (second .row-is-empty2 .result) both),
-    )
-
-returns-2 : tie.Need-returns-2
-returns-2 c =
-    let kept = c .before .before .before .before .before .before in
-    let out = kept .before .before .before .before in
-    let second = out .before .before .before .before .before in
-    let first = second .before .before in
-    let known = first .before .before in
-    let s = known .before .before in (
-      stored (s .args .b) (now (s .args .confirmed)) (within s .0) (s .pre .1) (λ i. known .before .slice-known .given i) _ _ _
-          (first .row-is-empty .ensures) (out .decayed .ensures .0 ∙ ap (apply-decay (s .args .factor)) (out .before .bucket-out .ensures .0)) (kept .put-back .ensures),
-      stored (s .args .b) (now (s .args .resolved)) (within s .1) (s .pre .1) (λ i. known .slice-known2 .given i) _ _ _
-          (second .row-is-empty2 .ensures) (out .decayed .ensures .1 ∙ ap (apply-decay (s .args .factor)) (out .before .bucket-out .ensures .1)) (c .before .before .put-back2 .ensures),
+    let put = c .before .before .before .before .bucket-in .ensures in
+    let aged = c .before .before .before .before .before .decayed .ensures in
+    let got = c .before .before .before .before .before .before .before .before .bucket-out .ensures in
+    let a = c .before .before .before .before .before .before .before .before .before .before .before .before .before .before .before .before .before .args in (
+      put .0 ∙ ap (λ (r : Counts). part-put 25 (a .b) r (now (a .confirmed))) (aged .0 ∙ ap (apply-decay (a .factor)) (got .0)),
+      put .1 ∙ ap (λ (r : Counts). part-put 25 (a .b) r (now (a .resolved))) (aged .1 ∙ ap (apply-decay (a .factor)) (got .1)),
     )
 
 pub decay-bucket-spec : {M : Type 1} → statement M
@@ -46,13 +23,12 @@ decay-bucket-spec =
     (tie.spec
     (λ c κs. search needs)
     (λ c κs. search needs)
+    (λ c κs. search needs)
+    (λ c κs. search needs)
     (λ c. search needs)
     (λ c. search needs)
     returns
     (λ c κs. search needs)
-    (λ c κs. search needs)
-    (λ c κs. search needs)
-    (λ c κs. search needs)
     (λ c. search needs)
     (λ c. search needs)
-    returns-2)
+    (λ c. search needs))
