@@ -14,6 +14,7 @@ use Rattle.floats.proofs.Zeros.{zero-tested, row-stays}
 use Rattle.lists.specs.Part.{part, part-put}
 use Rattle.lists.proofs.Part.{length-part, getD-part, put-same}
 use Rattle.lists.proofs.Lists.{getD-within}
+use Rattle.counts.specs.Decay.{row-decayed}
 
 -- the source's `x == 0.0`
 is-tested : (x : Float) → eq x (ofBits binary64 0) ≡ is-zero x
@@ -38,13 +39,13 @@ module _ (b : ℕ) (xs : Counts) where
 
     module _ {d : Float} (q : Factor d) (f : (i : ℕ) → T (fits binary64 (getD xs i nan))) where
       -- an empty row stands as it would be stored
-      pub skipped : empty-row row ≡ true → xs ≡ part-put 25 b (apply-decay d row) xs
+      pub skipped : empty-row row ≡ true → xs ≡ row-decayed b d xs
       skipped e =
           let fit : (i : ℕ) → i < length row → T (fits binary64 (getD row i nan)) =
           λ i k. subst (λ (x : Float). T (fits binary64 x)) (sym (getD-part 25 b xs i nan (rw (length-part 25 b xs h) at k))) (f (b * 25 + i)) in
           sym (rw (row-stays q row fit e) (put-same 25 b xs h))
 
       -- a row that is stored unless it is empty
-      pub stored : (empty : Bool) (new last : Counts) → empty ≡ empty-row row → new ≡ apply-decay d row → last ≡ cond empty xs (part-put 25 b new xs) → last ≡ part-put 25 b (apply-decay d row) xs
+      pub stored : (empty : Bool) (new last : Counts) → empty ≡ empty-row row → new ≡ apply-decay d row → last ≡ cond empty xs (part-put 25 b new xs) → last ≡ row-decayed b d xs
       stored true new last e n l = l ∙ skipped (sym e)
       stored false new last e n l = l ∙ ap (λ (r : Counts). part-put 25 b r xs) n
