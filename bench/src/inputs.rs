@@ -4,7 +4,7 @@ pub type Id = [u8; 32];
 
 /// The last height of every history here.
 pub const HEIGHT: u32 = 800_000;
-const BUCKETS: u64 = 142;
+pub const BUCKETS: u64 = 142;
 const TARGETS: u32 = 25;
 
 /// Numbers that look random (SplitMix64).
@@ -56,14 +56,14 @@ pub struct History {
 }
 
 /// A history at HEIGHT, with so many records of each kind. Entries and confirmations are spread over the last 25 heights, and resolved-through is what a
-/// run would have left. Every `apart`-th bucket is in use, from the lowest: the others' counts are zero.
-pub fn history(pending: usize, confirmed: usize, reversed: bool, apart: u64) -> History {
+/// run would have left. So many of the lowest buckets are in use, and the counts of the others are zero.
+pub fn history(pending: usize, confirmed: usize, reversed: bool, in_use: u64) -> History {
     let mut numbers = Numbers::new(1);
     let fresh = original::FeeEstimator::new().to_history_bytes();
     let (head, rows) = (&fresh[..12], &fresh[13..57_953]);
     let mut bytes = [head, &[1], &HEIGHT.to_le_bytes(), &rows[..4]].concat();
     for (bucket, row) in (0..BUCKETS).zip(rows[4..].chunks_exact(408)) {
-        if bucket % apart != 0 {
+        if bucket >= in_use {
             bytes.extend(row);
             continue;
         }
@@ -86,7 +86,7 @@ pub fn history(pending: usize, confirmed: usize, reversed: bool, apart: u64) -> 
     let count = |list: &[Id]| u32::try_from(list.len()).expect("a count of 32 bits").to_le_bytes();
     bytes.extend(count(&pending));
     for id in &pending {
-        let bucket = u32::try_from(numbers.below(BUCKETS.div_ceil(apart)) * apart).expect("a bucket");
+        let bucket = u32::try_from(numbers.below(in_use)).expect("a bucket");
         let through = numbers.below_u32(TARGETS);
         bytes.extend(id);
         bytes.extend([bucket, HEIGHT - through, through].iter().flat_map(|field| field.to_le_bytes()));

@@ -1,6 +1,6 @@
 //! The rows of the benchmark: a call, and the state that it is made in.
 
-use crate::inputs::{HEIGHT, History, Id, Numbers, history};
+use crate::inputs::{BUCKETS, HEIGHT, History, Id, Numbers, history};
 use crate::sides::Estimator;
 use std::fmt;
 use std::hint::black_box;
@@ -8,8 +8,8 @@ use std::str::FromStr;
 
 /// How often a call is made where one makes no great difference to the next.
 const OFTEN: u32 = 100;
-/// On a sparse board one bucket of so many is in use: 21 of the 142.
-const SPARSE: u64 = 7;
+/// How many of the 142 buckets are in use on a sparse board.
+const SPARSE: u64 = 21;
 
 /// A call, by its name in the table.
 #[derive(Clone, Copy, PartialEq)]
@@ -29,8 +29,8 @@ pub struct Row {
     call: Call,
     pending: usize,
     confirmed: usize,
-    /// Every bucket is in use, or every so many-th.
-    apart: u64,
+    /// How many of the lowest buckets hold something.
+    in_use: u64,
     judging: bool,
 }
 
@@ -42,16 +42,16 @@ pub struct Work {
 
 impl Row {
     const fn of(call: Call, pending: usize, confirmed: usize) -> Self {
-        Self { call, pending, confirmed, apart: 1, judging: false }
+        Self { call, pending, confirmed, in_use: BUCKETS, judging: false }
     }
 
     const fn sparse(self) -> Self {
-        Self { apart: SPARSE, ..self }
+        Self { in_use: SPARSE, ..self }
     }
 
     /// The history of the state.
     pub fn history(&self) -> History {
-        history(self.pending, self.confirmed, self.call == Call::Read { reversed: true }, self.apart)
+        history(self.pending, self.confirmed, self.call == Call::Read { reversed: true }, self.in_use)
     }
 
     /// The calls in that state.
@@ -171,7 +171,7 @@ impl fmt::Display for Row {
             Call::Read { reversed: true } => f.write_str("read-reversed"),
         }?;
         write!(f, "-{}-{}", self.pending, self.confirmed)?;
-        if self.apart == SPARSE { f.write_str("-sparse") } else { Ok(()) }
+        if self.in_use == SPARSE { f.write_str("-sparse") } else { Ok(()) }
     }
 }
 
