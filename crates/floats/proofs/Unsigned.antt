@@ -59,7 +59,7 @@ le-trans {x} {y} {z} p q r h k = cross→le p r (through (num x) (num y) (num z)
 
 -- ---- rounding
 
-pub zero-round : (s : Bool) → round binary64 s 0 1 ≡ fin s 0 (pos 0)
+zero-round : (s : Bool) → round binary64 s 0 1 ≡ fin s 0 (pos 0)
 unfolding round
 zero-round true = refl
 zero-round false = refl
@@ -98,10 +98,11 @@ pub div-is : {x y : Float} → Unsigned x → Unsigned y → 0 < num y → div b
 unfolding div
 div-is (number m e) (number n d) h = rw (ne-eqb n 0 (λ z. omega (arith, ap (λ (k : ℕ). k * up d) z)))
 
--- a zero times such a number is that zero, with its sign
+-- no part of anything rounds to zero, with its sign
 zero-fraction : (s : Bool) (a c : ℕ) → a ≡ 0 → 0 < c → round binary64 s a c ≡ fin s 0 (pos 0)
 zero-fraction s a c e C = round-same binary64 s a c 0 1 C (zero-lt-suc 0) (omega arith) ∙ zero-round s
 
+-- a zero times such a number is that zero
 pub zero-times : (s : Bool) {d : Float} → Unsigned d → mul binary64 (fin s 0 (pos 0)) d ≡ fin s 0 (pos 0)
 unfolding mul
 zero-times true (number n g) = zero-fraction true (0 * 1 * (n * up g)) (1 * down g) (omega arith) (mul-pos (zero-lt-suc 0) (down-pos g))

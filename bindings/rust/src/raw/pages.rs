@@ -81,14 +81,17 @@ impl Pages {
 
     /// Makes each page read-only that has rows, all of which pass the test: how many these are.
     fn protect(&mut self, passes: impl Fn(usize) -> bool) -> usize {
-        let pages = (0..SPACE / page_size()).filter(|page| !self.rows_in(*page).is_empty() && self.rows_in(*page).all(&passes));
-        pages
-            .inspect(|page| {
+        let mut protected = 0;
+        for page in 0..SPACE / page_size() {
+            let mut rows = self.rows_in(page);
+            if !rows.is_empty() && rows.all(&passes) {
                 // SAFETY: a page of this mapping, into which no reference is held.
                 let answer = unsafe { mprotect(self.base.add(page * page_size()).cast(), page_size(), PROT_READ) };
                 assert_eq!(answer, 0, "mprotect");
-            })
-            .count()
+                protected += 1;
+            }
+        }
+        protected
     }
 }
 
