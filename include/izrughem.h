@@ -114,7 +114,8 @@ uint32_t izr_tx_left(uint64_t *state, size_t state_len, uint8_t *pending, size_t
 
 /*
  * A block is connected, with the ids that it confirms, IZR_ID_SIZE bytes each, one after the other. It judges the state and all memory. Its heights do not
- * store to a row of counts (25 of one kind, of one bucket) that holds only zeros, so pages that have only such rows are not written.
+ * store to a row of counts (25 of one kind, of one bucket) that holds only zeros. So pages that have only such rows are not written, where the block counts
+ * nothing in their buckets.
  *
  *   IZR_DONE             state[1] is the last height: the height of this block, or, where that is not above the last one, the last one as it was
  *   IZR_DAMAGED
