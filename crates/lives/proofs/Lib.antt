@@ -6,5 +6,5 @@ pub mod Anew
 pub mod Lives
 -- whatever meets the contracts leads where the definitions lead
 pub mod Link
--- every promise, for the base board and version 1 of the file
-pub mod Base
+-- every promise, for either board and its own version of the file
+pub mod Boards

@@ -10,5 +10,5 @@ pub mod Feeds
 pub mod Heights
 -- and as calls
 pub mod Gaps
--- every promise, for the base board
-pub mod Base
+-- every promise, for either board
+pub mod Boards

@@ -1,4 +1,4 @@
--- Edges of the public calls: one call on given memory, its answer, and what the tables and the state are afterwards. Assumes nothing.
+-- Edges of the public calls of a board: one call on given memory, its answer, and what the tables and the state are afterwards. Assumes nothing.
 use Prim.Native.Nat.{ℕ, _+_, _-_, _*_}
 use mathlib.Core.Bool.{Bool, true, false, _&&_}
 use mathlib.Core.List.{List, [], _∷_, _++_}
@@ -10,7 +10,7 @@ use Rattle.kinds.specs.declared.Last.the-variants.{Nothing}
 use Rattle.kinds.specs.Answers.{Answer}
 use Rattle.rules.specs.Ids.{Id, same}
 use Rattle.rules.specs.Counts.{Counts, nought, places-of-counts}
-use Rattle.rules.specs.Board.{base}
+use Rattle.rules.specs.Board.{Board}
 use Rattle.rules.specs.Memory.{Lent}
 use Rattle.rules.specs.Calls.{start-call, enter-call, leave-call, block-call, estimate-call}
 
@@ -33,7 +33,7 @@ only b row = replicate (b * 25) nought ++ row ++ replicate (places-of-counts - (
 abbrev pub id : ℕ → Id
 id n = n ∷ replicate 31 0
 
--- one call of the base board
+-- one call
 pub data Ask : Type 0 where
   enters : State → List ℕ → Id → Ask  -- at rate 5,000 and height 100
   leaves : State → List ℕ → Id → Ask
@@ -41,11 +41,11 @@ pub data Ask : Type 0 where
   estimates : Counts → Counts → ℕ → Ask  -- target
 
 -- its answer
-unfoldable pub answer-of : Ask → Answer
-answer-of (enters s xs i) = enter-call base s xs i (record { 0 = 5000 }) (record { 0 = 100 }) .answer
-answer-of (leaves s xs i) = leave-call base s xs i .answer
-answer-of (connects s l ids B) = block-call base s l ids (record { 0 = B }) .answer
-answer-of (estimates c r target) = estimate-call base (record { last = Nothing; pending = 0; recent = 0 }) c r (record { 0 = target })
+unfoldable pub answer-of : Board → Ask → Answer
+answer-of k (enters s xs i) = enter-call k s xs i (record { 0 = 5000 }) (record { 0 = 100 }) .answer
+answer-of k (leaves s xs i) = leave-call k s xs i .answer
+answer-of k (connects s l ids B) = block-call k s l ids (record { 0 = B }) .answer
+answer-of k (estimates c r target) = estimate-call k (record { last = Nothing; pending = 0; recent = 0 }) c r (record { 0 = target })
 
 -- what an edge says
 pub data Edge : Type 0 where
@@ -60,15 +60,16 @@ pub data Edge : Type 0 where
   -- a block is Done, and leaves these numbers past the 3,550 counts of each kind
   leaves-beyond : State → Lent → List ℕ → ℕ → List Float → List Float → Edge
 
-unfoldable pub holds-true : Edge → Bool
-holds-true (says q n carried) = let a = answer-of q in eqb (a .number) n && same (a .carries) carried
-holds-true (starts l n) = eqb (start-call base l .answer .number) n
-holds-true (leaves-tables s l ids B pending recent p r) =
-    let o = block-call base s l ids (record { 0 = B }) in
+-- the edge is one of the board
+unfoldable pub holds-true : Board → Edge → Bool
+holds-true k (says q n carried) = let a = answer-of k q in eqb (a .number) n && same (a .carries) carried
+holds-true k (starts l n) = eqb (start-call k l .answer .number) n
+holds-true k (leaves-tables s l ids B pending recent p r) =
+    let o = block-call k s l ids (record { 0 = B }) in
     same (o .lent .pending) pending && (same (o .lent .recent) recent && (eqb (o .state .pending) p && eqb (o .state .recent) r))
-holds-true (leaves-counts s l ids B b confirmed resolved) =
-    let o = block-call base s l ids (record { 0 = B }) in
+holds-true k (leaves-counts s l ids B b confirmed resolved) =
+    let o = block-call k s l ids (record { 0 = B }) in
     same-counts (take places-of-counts (o .lent .confirmed)) (only b confirmed) && same-counts (take places-of-counts (o .lent .resolved)) (only b resolved)
-holds-true (leaves-beyond s l ids B confirmed resolved) =
-    let o = block-call base s l ids (record { 0 = B }) in
+holds-true k (leaves-beyond s l ids B confirmed resolved) =
+    let o = block-call k s l ids (record { 0 = B }) in
     eqb (o .answer .number) 0 && (same-counts (drop places-of-counts (o .lent .confirmed)) confirmed && same-counts (drop places-of-counts (o .lent .resolved)) resolved)

@@ -10,6 +10,7 @@ use Rattle.kinds.specs.declared.State.{State}
 use Rattle.kinds.specs.declared.Last.{Last}
 use Rattle.kinds.specs.declared.Last.the-variants.{Nothing, At}
 use Rattle.rules.specs.Counts.{Counts, columns, places-of-counts, decimal, nought, one, no-counts}
+use Rattle.rules.specs.Board.{Board, base}
 use Rattle.rules.specs.Memory.{Lent, lent}
 use Rattle.rules.proofs.Edge.{id, enters, leaves, connects, estimates, Edge, says, starts, leaves-tables, leaves-counts, leaves-beyond}
 
@@ -58,10 +59,10 @@ three x y z = x ∷ replicate (columns - 1) nought ++ (y ∷ replicate (columns 
 abbrev pub late : ℕ → List ℕ
 late t = id 1 ++ (33 ∷ 0 ∷ 0 ∷ 0 ∷ 255 ∷ 255 ∷ 255 ∷ 255 ∷ t ∷ 0 ∷ 0 ∷ 0 ∷ [])
 
--- x after n heights, rounded at each
-unfoldable pub decayed : ℕ → Float → Float
-decayed zero x = x
-decayed (suc n) x = mul binary64 (decayed n x) (decimal 998 1000)
+-- x after n heights of a board, rounded at each
+unfoldable pub decayed : Board → ℕ → Float → Float
+decayed k zero x = x
+decayed k (suc n) x = mul binary64 (decayed k n x) (k .decay)
 
 -- ---- the table
 
@@ -129,9 +130,9 @@ edges =
     ∷ leaves-tables (state (at 9) 1 0) (memory (late 25 ++ zeros 44) (zeros 72)) [] 10 (zeros 88 ++ (7 ∷ 7 ∷ 7 ∷ [])) (zeros 72 ++ (9 ∷ [])) 0 0
     ∷ leaves-counts (state (at 9) 1 0) (memory (late 5 ++ zeros 44) (zeros 72)) (id 1) 10 33 (replicate columns (decimal 998 1000)) (replicate 5 nought ++ replicate 20 (decimal 998 1000))
     -- skipped heights one by one: entered at 100, last height 100, block 103, unlisted: target 1 decays three times, 2 twice, 3 once
-    ∷ leaves-counts (state (at 100) 1 0) one-pending [] 103 33 (replicate columns nought) (decayed 3 one ∷ decayed 2 one ∷ decayed 1 one ∷ replicate 22 nought)
+    ∷ leaves-counts (state (at 100) 1 0) one-pending [] 103 33 (replicate columns nought) (decayed base 3 one ∷ decayed base 2 one ∷ decayed base 1 one ∷ replicate 22 nought)
     -- 3.0 through those heights is rounded three times: one multiplication by a power gives another number
-    ∷ leaves-counts (state (at 100) 0 0) (lent (first-count (decimal 3 1)) no-counts [] []) [] 103 0 (decayed 3 (decimal 3 1) ∷ replicate 24 nought) (replicate columns nought)
+    ∷ leaves-counts (state (at 100) 0 0) (lent (first-count (decimal 3 1)) no-counts [] []) [] 103 0 (decayed base 3 (decimal 3 1) ∷ replicate 24 nought) (replicate columns nought)
     -- what is lent past the 3,550 counts is neither judged nor changed
     ∷ leaves-beyond (state (at 100) 0 0) (lent (no-counts ++ (minus-one ∷ [])) (no-counts ++ (one ∷ [])) [] []) [] 101 (minus-one ∷ []) (one ∷ [])
     ∷ says (estimates (first-count one ++ (nan ∷ [])) (first-count one ++ (minus-one ∷ [])) 1) 0 (1000 ∷ [])

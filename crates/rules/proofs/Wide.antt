@@ -1,4 +1,4 @@
--- The edges of the wide board, both sides of each: its columns are six blocks wide, its factor is the double nearest to 0.9995, and its confirmed records are
+-- The steps of the wide board, both sides of each edge: its columns are six blocks wide, its factor is the double nearest to 0.9995, and its confirmed records are
 -- pruned after 25 blocks as on the base board. Computed. Assumes nothing.
 use mathlib.Core.Path.{_≡_, refl}
 use mathlib.Core.List.{[], _∷_, map}

@@ -8,6 +8,7 @@ use mathlib.Core.List.{List, [], _∷_, _++_}
 use lib.Dec.{T, lit<}
 use lib.ListN.{replicate}
 use lib.Ieee.{Float, nan, binary64, add, mul}
+use Rattle.kinds.specs.declared.Horizon.{Horizon}
 use Rattle.kinds.specs.declared.Last.the-variants.{At}
 use Rattle.rules.specs.Ids.{same}
 use Rattle.rules.specs.Ladder.{buckets}
@@ -24,7 +25,7 @@ use Rattle.meaning.proofs.Computed.{compute-runs, compute-logs}
 use Rattle.lives.specs.Anew.{refitted}
 use Rattle.lives.specs.Lives.{Ask, start, change, lend, Life, begun, next, lives, TypedAsk, TypedAsks, Fair, AllFair, RefitPromise, Lived, LifePromise}
 use Rattle.lives.proofs.Lives.{lives-more, typed-more, fair-more}
-use Rattle.lives.proofs.Base.{refits, lives as promise}
+use Rattle.lives.proofs.Boards.{refits, lives as promise}
 use Rattle.witness.proofs.Dirty.{dirty, enters, connects}
 
 -- ---- what is asked
@@ -163,7 +164,7 @@ fair-first = (tt, (tt, (tt, (tt, (tt, (tt, tt))))))
 
 fair-second : AllFair version-1 base (second full) full
 unfolding AllFair Fair RefitPromise
-fair-second = (refits before refl first typed-first fair-first 44 72, (tt, (tt, tt)))
+fair-second = (refits Horizon.Base before refl first typed-first fair-first 44 72, (tt, (tt, tt)))
 
 typed-both : TypedAsks (first ++ second full)
 typed-both = typed-more first (second full) typed-first typed-second
@@ -177,7 +178,7 @@ both-lead = lives-more version-1 base first (second full) before
 
 fair-third : AllFair version-1 base (third (on second full)) (on second full)
 unfolding AllFair Fair RefitPromise
-fair-third = (subst (λ (y : Life). Fair base (free 0 36 y) y) both-lead (refits before refl (first ++ second full) typed-both fair-both 0 36), (tt, (tt, (tt, tt))))
+fair-third = (subst (λ (y : Life). Fair base (free 0 36 y) y) both-lead (refits Horizon.Base before refl (first ++ second full) typed-both fair-both 0 36), (tt, (tt, (tt, tt))))
 
 -- all that is asked
 abbrev asked : List Ask
@@ -195,7 +196,7 @@ pub spoken-of : Lived base (there .held)
 unfolding LifePromise
 spoken-of =
     subst (λ (y : Life). y .is-fresh ≡ true → Rising (y .held .log) → Lived base (y .held)) leads
-    (promise before refl asked (typed-more (first ++ second full) _ typed-both typed-third)
+    (promise Horizon.Base before refl asked (typed-more (first ++ second full) _ typed-both typed-third)
     (fair-more version-1 base (first ++ second full) _ before fair-both (subst (AllFair version-1 base (third (on second full))) (sym both-lead) fair-third)))
     (led .fresh-is) (subst Rising (sym (led .log-is)) rises)
 

@@ -1,4 +1,4 @@
--- The laws for the base board, and the worked cases. Assumes nothing.
+-- The laws for the board that a horizon names, whichever it is, and the worked cases of the base board. Assumes nothing.
 use mathlib.Core.Path.{_≡_, refl, ap, _∙_}
 use mathlib.Core.List.{List, [], _∷_, _++_}
 use Prim.Native.Nat.{ℕ, _<_}
@@ -6,14 +6,15 @@ use native.Mathlib.Omega.{arith}
 use lib.Dec.{T, lit≤, lit<}
 use lib.ListN.{length, getD, length-replicate, getD-replicate}
 use lib.Ieee.{nan, binary64, fits}
+use Rattle.kinds.specs.declared.Horizon.{Horizon}
 use Rattle.kinds.specs.declared.State.{State}
 use Rattle.rules.specs.Lists.{every}
-use Rattle.rules.specs.Board.{base}
+use Rattle.rules.specs.Board.{base, board-of}
 use Rattle.rules.specs.Counts.{nought, places-of-counts, no-counts}
 use Rattle.rules.specs.Calls.{Outcome}
-use Rattle.rules.proofs.Boards.{base-lawful}
+use Rattle.rules.proofs.Boards.{board-lawful}
 use Rattle.rules.proofs.Computed.{compute-calls}
-use Rattle.floats.proofs.Count.{base-factor}
+use Rattle.floats.proofs.Count.{board-factor}
 use Rattle.ready.proofs.Stays.{Typed}
 use Rattle.orders.specs.Orders.{Call, Entry, in-turn, Holds, Commute, OrderPromise}
 use Rattle.orders.specs.Feeds.{entering-all, distinct, Reordered, swapped, after, and-then, FeedPromise}
@@ -24,16 +25,16 @@ use Rattle.orders.proofs.Feeds.{feed-promise}
 use Rattle.orders.proofs.Gaps.{gap-promise}
 
 -- entries and leaves, in either order
-pub orders : OrderPromise base
-orders = order-promise base base-lawful
+pub orders : (on : Horizon) → OrderPromise (board-of on)
+orders on = order-promise (board-of on) (board-lawful on)
 
 -- any number of entries, in any order
-pub feeds : FeedPromise base
-feeds = feed-promise base base-lawful
+pub feeds : (on : Horizon) → FeedPromise (board-of on)
+feeds on = feed-promise (board-of on) (board-lawful on)
 
 -- blocks that list nothing, on the way to a block
-pub gaps : GapPromise base
-gaps = gap-promise base base-lawful base-factor
+pub gaps : (on : Horizon) → GapPromise (board-of on)
+gaps on = gap-promise (board-of on) (board-lawful on) (board-factor on)
 
 -- Two outcomes that meet the calls' contracts, where the second call was given what the first left, are the two calls in turn. So the compiled calls have the laws.
 pub met-in-turn : (p q : Call) (s : State) (xs : List ℕ) (first second : Outcome (List ℕ)) → first ≡ p s xs → second ≡ q (first .state) (first .lent) → second ≡ in-turn p q s xs
@@ -59,7 +60,7 @@ not-of-one-id alike =
 
 pub two-entries : Commute (enters 7) (enters 9) (used 0) (table (free ++ free))
 unfolding compute-calls OrderPromise
-two-entries = orders (used 0) (table (free ++ free)) tt .entries (entry 7) (entry 9) refl refl refl (lit≤ tt)
+two-entries = orders Horizon.Base (used 0) (table (free ++ free)) tt .entries (entry 7) (entry 9) refl refl refl (lit≤ tt)
 
 -- three entries, and the same from the last to the first
 abbrev three : List Entry
@@ -73,7 +74,7 @@ turned-three = and-then (swapped (entry 7) (entry 9)) (and-then (after (entry 9)
 
 pub three-entries : let xs = table (free ++ free ++ free) in Holds (entering-all base three (used 0) xs) (entering-all base turned (used 0) xs .state) (entering-all base turned (used 0) xs .lent)
 unfolding compute-calls distinct FeedPromise
-three-entries = feeds (used 0) (table (free ++ free ++ free)) tt three turned turned-three refl refl (lit≤ tt)
+three-entries = feeds Horizon.Base (used 0) (table (free ++ free ++ free)) tt three turned turned-three refl refl (lit≤ tt)
 
 -- memory of the types that slices have
 typed : Typed no-place
@@ -86,4 +87,4 @@ typed = record { pending = tt; recent = tt; confirmed = each; resolved = each }
 -- from the last height 100, in two steps of 4,096, to a block at 9,000
 pub far : Crossed base full no-place 100 (4196 ∷ 8292 ∷ []) (id 7) 9000
 unfolding compute-calls climbing near
-far = gaps .calls full no-place typed refl 100 refl (4196 ∷ 8292 ∷ []) (id 7) 9000 refl refl (lit< tt)
+far = gaps Horizon.Base .calls full no-place typed refl 100 refl (4196 ∷ 8292 ∷ []) (id 7) 9000 refl refl (lit< tt)
