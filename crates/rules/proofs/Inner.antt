@@ -111,16 +111,17 @@ long-enough xs h = leb-true places-of-counts (length xs) (and-left (enough xs) _
 
 -- ---- the estimate
 
+-- what is less than a width above 25 widths has at most 25 of them
+widths-in : (w x : ℕ) → x ≤ w * columns + (w - 1) → x / w ≤ columns
+widths-in zero x h = omega (arith, div-zero x)
+widths-in (suc w) x h =
+    let below : x / suc w < 26 = div-lt-iff-lt-mul (zero-lt-suc w) .1 (omega arith) in
+    omega arith
+
 -- every column is one of the 25
 column-within : (k : Board) (target : ℕ) → column-of k target ≤ columns
 unfolding column-of
-column-within k target = go (k .width)
-  where
-    go : (w : ℕ) → (min target (w * columns) + (w - 1)) / w ≤ columns
-    go zero = omega (arith, div-zero (min target (0 * columns) + (0 - 1)))
-    go (suc w) =
-        let h : (min target (suc w * columns) + (suc w - 1)) / suc w < 26 = div-lt-iff-lt-mul (zero-lt-suc w) .1 (omega (arith, min-le-right target (suc w * columns))) in
-        omega arith
+column-within k target = widths-in (k .width) _ (omega (arith, min-le-right target (k .width * columns)))
 
 column-inner : (n c N : ℕ) (xs : List Float) → c ≤ columns → n * columns ≤ N → N ≤ length xs → column n c (take N xs) ≡ column n c xs
 unfolding column

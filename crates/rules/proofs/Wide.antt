@@ -22,7 +22,7 @@ abbrev small : Estimator
 small = record { last = Nothing; pending = admitted ∷ []; recent = record { id = []; height = 100 } ∷ []; confirmed = nought ∷ nought ∷ nought ∷ []; resolved = [] }
 
 -- targets: 6 is the last of column 1, 150 the last of column 25, and above means 25
-pub wide-columns : map (column-of wide) (1 ∷ 6 ∷ 7 ∷ 144 ∷ 145 ∷ 150 ∷ 151 ∷ []) ≡ 1 ∷ 1 ∷ 2 ∷ 24 ∷ 25 ∷ 25 ∷ 25 ∷ []
+pub wide-columns : map (column-of wide) (1 ∷ 6 ∷ 7 ∷ 144 ∷ 145 ∷ 149 ∷ 150 ∷ 151 ∷ []) ≡ 1 ∷ 1 ∷ 2 ∷ 24 ∷ 25 ∷ 25 ∷ 25 ∷ 25 ∷ []
 unfolding column-of
 wide-columns = refl
 

@@ -7,17 +7,18 @@ use mathlib.Core.Bool.{Bool, true, false, _&&_}
 use mathlib.Core.List.{List, [], _∷_, _++_}
 use lib.Dec.{T, lit<}
 use lib.ListN.{replicate}
-use lib.Ieee.{Float, nan, binary64, add, mul}
+use lib.Ieee.{Float, nan, binary64, add}
 use Rattle.kinds.specs.declared.Horizon.{Horizon}
 use Rattle.kinds.specs.declared.Last.the-variants.{At}
 use Rattle.rules.specs.Ids.{same}
 use Rattle.rules.specs.Ladder.{buckets}
-use Rattle.rules.specs.Counts.{Counts, columns, decimal, nought, one, cell}
+use Rattle.rules.specs.Counts.{Counts, columns, nought, one, cell}
 use Rattle.rules.specs.Bytes.{bytes}
-use Rattle.rules.specs.Board.{base}
+use Rattle.rules.specs.Board.{Board, base}
 use Rattle.rules.specs.Estimator.{fresh}
 use Rattle.rules.specs.Memory.{Lent, state-of}
 use Rattle.rules.proofs.Edge.{id, same-counts}
+use Rattle.rules.proofs.Edges.{decayed}
 use Rattle.format.specs.File.{version-1}
 use Rattle.meaning.specs.Runs.{arrival, removal, block, Log, begin, _▸_, Rising, last-of, Above, singly, Typed, leave}
 use Rattle.meaning.specs.Fates.{Kind, in-resolved, in-confirmed, count-of}
@@ -90,9 +91,8 @@ taken =
 -- ---- what is stored in the end, told by hand
 
 -- x, n heights later
-unfoldable pub fade : ℕ → Float → Float
-fade zero x = x
-fade (suc n) x = mul binary64 (fade n x) (decimal 998 1000)
+abbrev fade : ℕ → Float → Float
+fade = decayed base
 
 -- one more
 unfoldable pub also : Float → Float
@@ -140,7 +140,7 @@ pub record Led (y : Life) : Type 0 where
   pub memory-is : T (left-so (y .held .memory))
 
 pub led : Led there
-unfolding compute-runs left-so on lives next begun confirmed-33 resolved-33 confirmed-14 resolved-14 resolved-0 rows also fade
+unfolding compute-runs left-so on lives next begun confirmed-33 resolved-33 confirmed-14 resolved-14 resolved-0 rows also decayed
 led = record { fresh-is = refl; log-is = refl; state-is = refl; memory-is = tt }
 
 -- ---- the promise of it
@@ -212,17 +212,17 @@ pub promised : (which : Kind) (b c : ℕ) → b < buckets → 1 ≤ c → c ≤ 
 promised in-confirmed b c h low high = spoken-of .meant .confirmed-is b c h low high ∙ ap (λ (l : Log). count-of in-confirmed base (singly l) b c) (led .log-is)
 promised in-resolved b c h low high = spoken-of .meant .resolved-is b c h low high ∙ ap (λ (l : Log). count-of in-resolved base (singly l) b c) (led .log-is)
 
--- the counts that the log makes, in n columns from c on
-unfoldable pub made : Kind → ℕ → ℕ → ℕ → List Float
-made which b c zero = []
-made which b c (suc n) = count-of which base (singly taken) b c ∷ made which b (suc c) n
+-- the counts that a log makes, in n columns from c on
+unfoldable pub made : Board → Log → Kind → ℕ → ℕ → ℕ → List Float
+made k l which b c zero = []
+made k l which b c (suc n) = count-of which k (singly l) b c ∷ made k l which b (suc c) n
 
 -- they are those that were told by hand, and that the calls have left
-pub worked : T (same-counts (made in-confirmed 33 1 25) confirmed-33
-    && (same-counts (made in-resolved 33 1 25) resolved-33
-    && (same-counts (made in-confirmed 14 1 25) confirmed-14
-    && (same-counts (made in-resolved 14 1 25) resolved-14
-    && (same-counts (made in-confirmed 0 1 25) confirmed-0
-    && same-counts (made in-resolved 0 1 25) resolved-0)))))
-unfolding compute-logs made confirmed-33 resolved-33 confirmed-14 resolved-14 resolved-0 also fade
+pub worked : T (same-counts (made base taken in-confirmed 33 1 25) confirmed-33
+    && (same-counts (made base taken in-resolved 33 1 25) resolved-33
+    && (same-counts (made base taken in-confirmed 14 1 25) confirmed-14
+    && (same-counts (made base taken in-resolved 14 1 25) resolved-14
+    && (same-counts (made base taken in-confirmed 0 1 25) confirmed-0
+    && same-counts (made base taken in-resolved 0 1 25) resolved-0)))))
+unfolding compute-logs made confirmed-33 resolved-33 confirmed-14 resolved-14 resolved-0 also decayed
 worked = tt

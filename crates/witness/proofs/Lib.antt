@@ -8,3 +8,5 @@ pub mod Needed
 pub mod Incident
 -- a life with most of what can happen, computed, and the promise of it
 pub mod Eventful
+-- a run of the wide board, computed, and the promise of it
+pub mod Slower
