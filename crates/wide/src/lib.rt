@@ -1,1 +1,0 @@
-// No code: each contract over the board, at the wide board.
