@@ -55,13 +55,14 @@ pub struct History {
     pub pending: Vec<Id>,
 }
 
-/// A history at HEIGHT, with so many records of each kind. Entries and confirmations are spread over the last 25 heights, and resolved-through is what a
-/// run would have left. So many of the lowest buckets are in use, and the counts of the others are zero.
-pub fn history(pending: usize, confirmed: usize, reversed: bool, in_use: u64) -> History {
+/// A history at HEIGHT of a board whose columns are so many blocks wide, with so many records of each kind. Entries are spread over the last 25 columns, confirmations over
+/// the last 25 heights, and resolved-through is what a run would have left. So many of the lowest buckets are in use, and the counts of the others are zero.
+pub fn history(width: u32, pending: usize, confirmed: usize, reversed: bool, in_use: u64) -> History {
     let mut numbers = Numbers::new(1);
     let fresh = original::FeeEstimator::new().to_history_bytes();
-    let (head, rows) = (&fresh[..12], &fresh[13..57_953]);
-    let mut bytes = [head, &[1], &HEIGHT.to_le_bytes(), &rows[..4]].concat();
+    let (magic, rows) = (&fresh[..8], &fresh[13..57_953]);
+    let version = if width == 1 { 1u32.to_le_bytes().to_vec() } else { [3u32.to_le_bytes(), width.to_le_bytes()].concat() };
+    let mut bytes = [magic, &version, &[1], &HEIGHT.to_le_bytes(), &rows[..4]].concat();
     for (bucket, row) in (0..BUCKETS).zip(rows[4..].chunks_exact(408)) {
         if bucket >= in_use {
             bytes.extend(row);
@@ -89,7 +90,7 @@ pub fn history(pending: usize, confirmed: usize, reversed: bool, in_use: u64) ->
         let bucket = u32::try_from(numbers.below(in_use)).expect("a bucket");
         let through = numbers.below_u32(TARGETS);
         bytes.extend(id);
-        bytes.extend([bucket, HEIGHT - through, through].iter().flat_map(|field| field.to_le_bytes()));
+        bytes.extend([bucket, HEIGHT - width * through, through].iter().flat_map(|field| field.to_le_bytes()));
     }
     bytes.extend(count(&confirmed));
     for id in &confirmed {

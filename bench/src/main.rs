@@ -1,4 +1,4 @@
-//! One row of the benchmark on one side: `bench original|library ROW count|time|memory`. A row is a call in a state; see `rows.rs`.
+//! One row of the benchmark on one side: `bench original|library|wide ROW count|time|memory`, where `wide` is the library's other board. A row is a call in a state; see `rows.rs`.
 //!
 //! - `count` makes the row's calls once, inside the function `measured` and between two calls of getppid, so that a tool can count the instructions executed there.
 //!   Prints the number of calls.
@@ -27,8 +27,9 @@ fn main() {
         ["rows"] => rows::all().iter().for_each(|row| println!("{row}")),
         ["original", row, mode] => run::<original::FeeEstimator>(row, mode),
         ["library", row, mode] => run::<izrughem::FeeEstimator>(row, mode),
+        ["wide", row, mode] => run::<izrughem::WideFeeEstimator>(row, mode),
         _ => {
-            eprintln!("usage: bench rows | bench original|library ROW count|time|memory");
+            eprintln!("usage: bench rows | bench original|library|wide ROW count|time|memory");
             std::process::exit(2);
         }
     }
@@ -36,7 +37,7 @@ fn main() {
 
 fn run<E: Estimator>(row: &str, mode: &str) {
     let row: Row = row.parse().unwrap_or_else(|error| panic!("{row}: {error}"));
-    let history = row.history();
+    let history = row.history(E::WIDTH);
     match mode {
         "count" => {
             let mut work = row.work::<E>(&history);

@@ -49,9 +49,9 @@ impl Row {
         Self { in_use: SPARSE, ..self }
     }
 
-    /// The history of the state.
-    pub fn history(&self) -> History {
-        history(self.pending, self.confirmed, self.call == Call::Read { reversed: true }, self.in_use)
+    /// The history of the state, on a board of that width.
+    pub fn history(&self, width: u32) -> History {
+        history(width, self.pending, self.confirmed, self.call == Call::Read { reversed: true }, self.in_use)
     }
 
     /// The calls in that state.
@@ -94,7 +94,7 @@ impl Row {
             Call::Gap(width) => Work { calls: Box::new(move || estimator.block_connected(&[], HEIGHT + width)), number: 1 },
             Call::Estimate(targets) => {
                 let from = if targets == 1 { 6 } else { 1 };
-                let all = move || (from..from + targets).filter_map(|target| estimator.estimate(black_box(target))).sum::<u64>();
+                let all = move || (from..from + targets).filter_map(|target| estimator.estimate(black_box(E::WIDTH * target))).sum::<u64>();
                 Work { calls: Box::new(move || (0..OFTEN).for_each(|_| _ = black_box(all()))), number: OFTEN }
             }
             Call::Write => {

@@ -1,10 +1,13 @@
-//! The two sides behind one trait, and the processor's clock.
+//! The sides behind one trait, and the processor's clock.
 
 use crate::inputs::Id;
+use std::any::Any;
 use std::time::Duration;
 
 /// The calls of an estimator.
 pub trait Estimator: Sized + 'static {
+    /// How many blocks a column is wide.
+    const WIDTH: u32;
     type Id: Copy + 'static;
     fn id(bytes: &Id) -> Self::Id;
     fn tx_entered(&mut self, id: Self::Id, rate: u64, height: u32);
@@ -13,13 +16,14 @@ pub trait Estimator: Sized + 'static {
     fn estimate(&self, target: u32) -> Option<u64>;
     fn to_history_bytes(&self) -> Vec<u8>;
     fn from_history_bytes(bytes: &[u8]) -> Self;
-    /// The library's own calls, refused once all memory that they use has been judged. The original judges nothing.
+    /// The library's own calls on the base board, refused once all memory that they use has been judged. The original judges nothing.
     fn judged(&mut self) -> Option<&mut izrughem::FeeEstimator> {
-        None
+        (self as &mut dyn Any).downcast_mut()
     }
 }
 
 impl Estimator for original::FeeEstimator {
+    const WIDTH: u32 = 1;
     type Id = original::Id;
 
     fn id(bytes: &Id) -> Self::Id {
@@ -51,41 +55,46 @@ impl Estimator for original::FeeEstimator {
     }
 }
 
-impl Estimator for izrughem::FeeEstimator {
-    type Id = izrughem::Txid;
+/// One of the library's estimators, and how many blocks a column of its board is wide.
+macro_rules! library {
+    ($estimator:ty, $width:literal) => {
+        impl Estimator for $estimator {
+            const WIDTH: u32 = $width;
+            type Id = izrughem::Txid;
 
-    fn id(bytes: &Id) -> Self::Id {
-        izrughem::Txid(*bytes)
-    }
+            fn id(bytes: &Id) -> Self::Id {
+                izrughem::Txid(*bytes)
+            }
 
-    fn tx_entered(&mut self, id: Self::Id, rate: u64, height: u32) {
-        self.try_tx_entered(id, rate, height).expect("it enters");
-    }
+            fn tx_entered(&mut self, id: Self::Id, rate: u64, height: u32) {
+                self.try_tx_entered(id, rate, height).expect("it enters");
+            }
 
-    fn tx_left(&mut self, id: &Self::Id) {
-        self.try_tx_left(id).expect("it leaves");
-    }
+            fn tx_left(&mut self, id: &Self::Id) {
+                self.try_tx_left(id).expect("it leaves");
+            }
 
-    fn block_connected(&mut self, ids: &[Self::Id], height: u32) {
-        self.try_block_connected(ids, height).expect("it is connected");
-    }
+            fn block_connected(&mut self, ids: &[Self::Id], height: u32) {
+                self.try_block_connected(ids, height).expect("it is connected");
+            }
 
-    fn estimate(&self, target: u32) -> Option<u64> {
-        self.estimate(target).map(izrughem::FeeRate::as_sat_per_kvb)
-    }
+            fn estimate(&self, target: u32) -> Option<u64> {
+                self.estimate(target).map(izrughem::FeeRate::as_sat_per_kvb)
+            }
 
-    fn to_history_bytes(&self) -> Vec<u8> {
-        self.to_history_bytes()
-    }
+            fn to_history_bytes(&self) -> Vec<u8> {
+                self.to_history_bytes()
+            }
 
-    fn from_history_bytes(bytes: &[u8]) -> Self {
-        Self::from_history_bytes(bytes).expect("it is read")
-    }
-
-    fn judged(&mut self) -> Option<&mut izrughem::FeeEstimator> {
-        Some(self)
-    }
+            fn from_history_bytes(bytes: &[u8]) -> Self {
+                Self::from_history_bytes(bytes).expect("it is read")
+            }
+        }
+    };
 }
+
+library!(izrughem::FeeEstimator, 1);
+library!(izrughem::WideFeeEstimator, 6);
 
 /// The time that this thread has had on a processor: other programs on the machine do not add to it.
 pub fn processor_time() -> Duration {
