@@ -53,7 +53,7 @@ pub enum HistoryReject {
 #[derive(Clone, Copy, Debug, Eq, PartialEq)]
 #[non_exhaustive]
 pub enum Refusal {
-    /// The memory is not an estimator's. No method of [`FeeEstimator`](crate::FeeEstimator) leads there.
+    /// The memory is not an estimator's. No method of an [`Estimator`](crate::Estimator) leads there.
     Damaged,
     /// The id is pending.
     AlreadyPending,
@@ -63,7 +63,7 @@ pub enum Refusal {
     Absent,
     /// The list of ids is not a multiple of 32 bytes. A list of [`Txid`] always is.
     BadList,
-    /// The height is more than [`WIDEST_GAP`](crate::WIDEST_GAP) above the last one. Only [`try_block_step`](crate::FeeEstimator::try_block_step) answers it.
+    /// The height is more than [`WIDEST_GAP`](crate::WIDEST_GAP) above the last one. Only [`try_block_step`](crate::Estimator::try_block_step) answers it.
     GapTooWide,
     /// There would be more than 1,000,000 confirmed records, each listing of a pending transaction counted as one.
     ConfirmedFull,
@@ -73,7 +73,7 @@ pub enum Refusal {
     UnknownVersion(u32),
     /// The bytes are no history.
     Corrupt,
-    /// The tables have no room for the history's records. A [`FeeEstimator`](crate::FeeEstimator) makes room for them.
+    /// The tables have no room for the history's records. An [`Estimator`](crate::Estimator) makes room for them.
     NoRoom,
     /// The output must have so many bytes.
     ShortOutput(usize),

@@ -38,26 +38,58 @@
 //! }
 //! assert_eq!(estimator.last_height(), Some(101));
 //! ```
+//!
+//! Batches that can wait for a day have an estimator of their own, [`WideFeeEstimator`]: the same methods on columns of 6 blocks, for targets of up to 150. The
+//! original has none. A node gives both the same feed, and keeps a history of each, as neither reads the other's:
+//!
+//! ```
+//! use izrughem::{FeeEstimator, HistoryReject, Txid, WideFeeEstimator};
+//!
+//! let id = |byte| Txid([byte; 32]);
+//! let (mut soon, mut later) = (FeeEstimator::new(), WideFeeEstimator::new());
+//! for (byte, rate) in [(1, 5_000), (2, 5_000), (3, 1_000), (4, 1_000)] {
+//!     soon.tx_entered(id(byte), rate, 100);
+//!     later.tx_entered(id(byte), rate, 100);
+//! }
+//! for (height, confirmed) in [(101, [id(1), id(2)]), (150, [id(3), id(4)])] {
+//!     soon.block_connected(&confirmed, height);
+//!     later.block_connected(&confirmed, height);
+//! }
+//!
+//! // 50 blocks are more than the one waits for. The other has them in column 9, which is for targets from 49 to 54.
+//! assert_eq!(soon.estimate(25).map(|rate| rate.as_sat_per_kvb()), Some(1_050));
+//! assert_eq!(later.estimate(48).map(|rate| rate.as_sat_per_kvb()), Some(1_050));
+//! assert_eq!(later.estimate(49).map(|rate| rate.as_sat_per_kvb()), Some(1_000));
+//!
+//! let history = later.to_history_bytes();
+//! assert_eq!(FeeEstimator::from_history_bytes(&history).unwrap_err(), HistoryReject::UnknownVersion(3));
+//! assert_eq!(WideFeeEstimator::from_history_bytes(&history)?.estimate(49), later.estimate(49));
+//! # Ok::<(), izrughem::HistoryReject>(())
+//! ```
 
 #![deny(unsafe_code)]
 #![deny(unsafe_op_in_unsafe_fn)]
 #![warn(missing_docs)]
 
 mod answers;
+mod boards;
+#[cfg(test)]
+#[macro_use]
+mod each_board;
+mod estimator;
 #[allow(unsafe_code)]
 mod raw;
 
-use answers::answered;
 pub use answers::{FeeRate, HistoryReject, Refusal, Txid};
-use raw::{Lent, State};
-use std::fmt;
+pub use boards::{Base, Board, Wide};
+pub use estimator::Estimator;
 
 /// The widest step from one height to the next that one call of the library makes.
 pub const WIDEST_GAP: u32 = 4_096;
 
 /// The version of the library's interface that this crate is for: `IZR_VERSION` of `include/izrughem.h`.
 const VERSION: u32 = 1;
-/// 142 buckets of 25 targets.
+/// 142 buckets of 25 columns.
 const COUNTS: usize = 3_550;
 /// The bytes of a pending record, and how many there may be.
 const PENDING_SIZE: usize = 44;
@@ -65,247 +97,17 @@ const MOST_PENDING: usize = 10_000;
 /// The bytes of a confirmed record, and how many there may be.
 const RECENT_SIZE: usize = 36;
 const MOST_RECENT: usize = 1_000_000;
-/// The bytes of a history with no last height and no record.
-const HISTORY_SIZE: usize = 57_961;
 
 /// Estimates the fee rate at which a transaction is confirmed within 1 to 25 blocks, from those that entered the mempool and those that blocks confirmed.
-#[derive(Clone)]
-pub struct FeeEstimator {
-    state: State,
-    confirmed: Box<[f64]>,
-    resolved: Box<[f64]>,
-    /// Between calls a table is as long as its used records: an unused place costs each call that judges it.
-    pending: Vec<u8>,
-    recent: Vec<u8>,
-}
+///
+/// Each target has a column of counts of its own, and above 25 means 25. What is not confirmed is let go after 25 blocks. The history is of version 1.
+pub type FeeEstimator = Estimator<Base>;
 
-impl FeeEstimator {
-    /// An estimator that has seen nothing.
-    ///
-    /// # Panics
-    /// Where the library that was linked is of another version than this crate.
-    #[must_use]
-    pub fn new() -> Self {
-        let mut fresh = Self::lending(0, 0);
-        let Self { state, confirmed, resolved, pending, recent } = &mut fresh;
-        let answer = raw::new(state, Lent { confirmed, resolved, pending, recent });
-        debug_assert_eq!(answer, 0);
-        fresh
-    }
-
-    /// Zeros in the place of counts, and tables with room for so many records. Every estimator begins here, so the library's version is looked at here.
-    fn lending(pending: usize, recent: usize) -> Self {
-        expect_version(raw::version());
-        Self {
-            state: [0; 4],
-            confirmed: vec![0.0; COUNTS].into(),
-            resolved: vec![0.0; COUNTS].into(),
-            pending: vec![0; pending * PENDING_SIZE],
-            recent: vec![0; recent * RECENT_SIZE],
-        }
-    }
-
-    /// Cuts the tables to their used records. What is cut off is zero.
-    fn trim(&mut self) {
-        self.pending.truncate(self.pending_len() * PENDING_SIZE);
-        self.recent.truncate(self.confirmed_len() * RECENT_SIZE);
-    }
-
-    /// A transaction enters the mempool at a height. One that is pending already is ignored, and so is one that comes when 10,000 are.
-    pub fn tx_entered(&mut self, txid: Txid, fee_rate_sat_per_kvb: u64, height: u32) {
-        let _ignored = self.try_tx_entered(txid, fee_rate_sat_per_kvb, height);
-    }
-
-    /// [`tx_entered`](Self::tx_entered), with its answer.
-    ///
-    /// # Errors
-    /// [`AlreadyPending`](Refusal::AlreadyPending), [`PendingFull`](Refusal::PendingFull).
-    pub fn try_tx_entered(&mut self, txid: Txid, fee_rate_sat_per_kvb: u64, height: u32) -> Result<(), Refusal> {
-        let room = (self.pending_len() + 1).min(MOST_PENDING);
-        self.pending.resize(room * PENDING_SIZE, 0);
-        let answer = raw::tx_entered(&mut self.state, &mut self.pending, &txid, fee_rate_sat_per_kvb, height);
-        self.trim();
-        answered(answer, 0)
-    }
-
-    /// A transaction leaves the mempool unconfirmed. One that is not pending is ignored.
-    pub fn tx_left(&mut self, txid: &Txid) {
-        let _ignored = self.try_tx_left(txid);
-    }
-
-    /// [`tx_left`](Self::tx_left), with its answer.
-    ///
-    /// # Errors
-    /// [`Absent`](Refusal::Absent).
-    pub fn try_tx_left(&mut self, txid: &Txid) -> Result<(), Refusal> {
-        let answer = raw::tx_left(&mut self.state, &mut self.pending, txid);
-        self.trim();
-        answered(answer, 0)
-    }
-
-    /// A block is connected at a height, and confirms the listed transactions. Heights that were skipped are gone through first, however many they are.
-    ///
-    /// Where [`try_block_connected`](Self::try_block_connected) is refused the block is ignored, and the original goes on. It is the one call here that can lose
-    /// what the original keeps.
-    pub fn block_connected(&mut self, confirmed_txids: &[Txid], block_height: u32) {
-        let _ignored = self.try_block_connected(confirmed_txids, block_height);
-    }
-
-    /// [`block_connected`](Self::block_connected), with its answer. It is done as a whole or, refused, changes nothing: no skipped height is gone through.
-    ///
-    /// After a block that was above the last height and was not refused, [`last_height`](Self::last_height) is the block's height.
-    ///
-    /// # Errors
-    /// [`ConfirmedFull`](Refusal::ConfirmedFull): there would be more than 1,000,000 confirmed records, each listing of a pending transaction counted as one.
-    /// (The original goes on, and then writes a history that it does not read again.) One block to a height that lists each transaction once never leads
-    /// there: the records of 27 heights are kept at most, 10,000 of each. A restored history can, and so can blocks at or below the last height, which let go
-    /// of no record.
-    pub fn try_block_connected(&mut self, confirmed_txids: &[Txid], block_height: u32) -> Result<(), Refusal> {
-        let Err(refusal) = self.try_block_step(confirmed_txids, block_height) else { return Ok(()) };
-        if self.last_height().is_none_or(|last| last.saturating_add(1) >= block_height) {
-            return Err(refusal);
-        }
-        let mut ahead = self.clone();
-        ahead.advance_to(block_height - 1);
-        ahead.try_block_step(confirmed_txids, block_height)?;
-        *self = ahead;
-        Ok(())
-    }
-
-    /// Goes through the heights up to this one by blocks of no ids. A block above them is then what it would have been without.
-    fn advance_to(&mut self, height: u32) {
-        while let Some(last) = self.last_height()
-            && last < height
-        {
-            let next = height.min(last.saturating_add(WIDEST_GAP));
-            self.try_block_step(&[], next).expect("a block of no ids within the widest gap");
-        }
-    }
-
-    /// [`try_block_connected`](Self::try_block_connected) over at most [`WIDEST_GAP`] heights, as one call of the library: its work is bounded.
-    ///
-    /// # Errors
-    /// [`GapTooWide`](Refusal::GapTooWide), [`ConfirmedFull`](Refusal::ConfirmedFull).
-    pub fn try_block_step(&mut self, confirmed_txids: &[Txid], block_height: u32) -> Result<(), Refusal> {
-        let listed = confirmed_txids.len().min(MOST_RECENT);
-        let room = (self.confirmed_len() + listed).min(MOST_RECENT);
-        self.recent.resize(room * RECENT_SIZE, 0);
-        let Self { state, confirmed, resolved, pending, recent } = self;
-        let answer = raw::block_connected(state, Lent { confirmed, resolved, pending, recent }, confirmed_txids, block_height);
-        self.trim();
-        answered(answer, 0)
-    }
-
-    /// The lowest rate at which a transaction is confirmed within so many blocks, if there is one. Above 25 means 25.
-    #[must_use]
-    pub fn estimate(&self, conf_target_blocks: u32) -> Option<FeeRate> {
-        self.try_estimate(conf_target_blocks).unwrap_or_default()
-    }
-
-    /// [`estimate`](Self::estimate), with its answer.
-    ///
-    /// # Errors
-    /// None that a method of this type leads to.
-    pub fn try_estimate(&self, conf_target_blocks: u32) -> Result<Option<FeeRate>, Refusal> {
-        let mut rate = 0;
-        let answer = raw::estimate(&self.state, &self.confirmed, &self.resolved, conf_target_blocks, &mut rate);
-        answered(answer, 0)?;
-        Ok((rate != 0).then_some(FeeRate::new(rate)))
-    }
-
-    /// The history file of this estimator.
-    #[must_use]
-    pub fn to_history_bytes(&self) -> Vec<u8> {
-        let mut out = vec![0; self.history_len()];
-        let written = self.try_to_history_bytes(&mut out).expect("an output of the history's length");
-        out.truncate(written);
-        out
-    }
-
-    /// [`to_history_bytes`](Self::to_history_bytes) into the first bytes of an output, with the number of bytes that were written.
-    ///
-    /// # Errors
-    /// [`ShortOutput`](Refusal::ShortOutput).
-    pub fn try_to_history_bytes(&self, out: &mut [u8]) -> Result<usize, Refusal> {
-        let Self { state, confirmed, resolved, pending, recent } = self;
-        let mut carried = 0;
-        let answer = raw::to_history_bytes(state, confirmed, resolved, pending, recent, out, &mut carried);
-        answered(answer, carried)?;
-        Ok(usize::try_from(carried).expect("a length is a usize"))
-    }
-
-    /// The estimator of a history file.
-    ///
-    /// # Errors
-    /// The bytes are no history that this version reads.
-    ///
-    /// # Panics
-    /// As [`new`](Self::new).
-    pub fn from_history_bytes(bytes: &[u8]) -> Result<Self, HistoryReject> {
-        Self::try_from_history_bytes(bytes).map_err(|refusal| match refusal {
-            Refusal::BadMagic => HistoryReject::BadMagic,
-            Refusal::UnknownVersion(version) => HistoryReject::UnknownVersion(version),
-            _ => HistoryReject::Corrupt,
-        })
-    }
-
-    /// [`from_history_bytes`](Self::from_history_bytes), with its answer.
-    ///
-    /// # Errors
-    /// [`BadMagic`](Refusal::BadMagic), [`UnknownVersion`](Refusal::UnknownVersion), [`Corrupt`](Refusal::Corrupt).
-    pub fn try_from_history_bytes(bytes: &[u8]) -> Result<Self, Refusal> {
-        let records = bytes.len().saturating_sub(HISTORY_SIZE);
-        let mut read = Self::lending((records / PENDING_SIZE).min(MOST_PENDING), (records / RECENT_SIZE).min(MOST_RECENT));
-        let Self { state, confirmed, resolved, pending, recent } = &mut read;
-        let mut version = 0;
-        let answer = raw::from_history_bytes(bytes, Lent { confirmed, resolved, pending, recent }, state, &mut version);
-        answered(answer, version)?;
-        read.trim();
-        Ok(read)
-    }
-
-    /// The last height: that of the highest block since the start, or of the restored history where that is higher; none before the first.
-    #[must_use]
-    pub fn last_height(&self) -> Option<u32> {
-        let [has_last, height, ..] = self.state;
-        (has_last == 1).then(|| u32::try_from(height).expect("a height has 32 bits"))
-    }
-
-    /// How many transactions are pending.
-    #[must_use]
-    pub fn pending_len(&self) -> usize {
-        usize::try_from(self.state[2]).expect("a used number is a usize")
-    }
-
-    /// How many confirmed records of recent blocks there are.
-    #[must_use]
-    pub fn confirmed_len(&self) -> usize {
-        usize::try_from(self.state[3]).expect("a used number is a usize")
-    }
-
-    /// The bytes that this estimator's history has.
-    #[must_use]
-    pub fn history_len(&self) -> usize {
-        let height = if self.last_height().is_some() { 4 } else { 0 };
-        HISTORY_SIZE + height + self.pending_len() * PENDING_SIZE + self.confirmed_len() * RECENT_SIZE
-    }
-}
-
-impl Default for FeeEstimator {
-    fn default() -> Self {
-        Self::new()
-    }
-}
-
-impl fmt::Debug for FeeEstimator {
-    fn fmt(&self, f: &mut fmt::Formatter<'_>) -> fmt::Result {
-        f.debug_struct("FeeEstimator")
-            .field("last_height", &self.last_height())
-            .field("pending", &self.pending_len())
-            .field("confirmed", &self.confirmed_len())
-            .finish_non_exhaustive()
-    }
-}
+/// Estimates the fee rate at which a transaction is confirmed within 1 to 150 blocks, for batches that can wait: a [`FeeEstimator`] with columns of 6 blocks.
+///
+/// Targets 1 to 6 have the first column and 145 to 150 the last, and above 150 means 150. What is not confirmed is let go after 150 blocks. Counts fade more
+/// slowly: at each height they are multiplied by 0.9995, not by 0.998. The history is of version 3. What the methods say of the original is about [`FeeEstimator`].
+pub type WideFeeEstimator = Estimator<Wide>;
 
 /// Another version of the interface would read and write other memory than this crate lends.
 fn expect_version(library: u32) {

@@ -2,9 +2,10 @@
 //!
 //! Why each call is sound: the library reads and writes nothing but what the pointers and lengths of its slices give it, keeps none of them, and asks nothing
 //! of the values behind them (its functions have no precondition, and each is proved to stay within its slices for all contents). A slice of Rust is aligned,
-//! not null and valid for its length, and those lent as `&mut` overlap no other.
+//! not null and valid for its length, and those lent as `&mut` overlap no other. That holds for each board: [`Calls`] are made nowhere but here.
 
 use crate::Txid;
+use crate::boards::Board;
 
 #[cfg(test)]
 mod pages;
@@ -16,7 +17,31 @@ pub type State = [u64; 4];
 
 unsafe extern "C" {
     safe fn izr_version() -> u32;
-    fn izr_new(
+    safe fn izr_bucket_index_for_rate(rate: u64) -> u64;
+}
+
+/// Declares the functions that each board has under a name of its own, first the base board's and then the wide one's, and gathers those of a board.
+macro_rules! calls {
+    ($($call:ident: $base:ident, $wide:ident($($parameter:ident: $kind:ty),* $(,)?);)*) => {
+        unsafe extern "C" {
+            $(
+                fn $base($($parameter: $kind),*) -> u32;
+                fn $wide($($parameter: $kind),*) -> u32;
+            )*
+        }
+
+        /// The functions of a board.
+        pub struct Calls {
+            $($call: unsafe extern "C" fn($($parameter: $kind),*) -> u32,)*
+        }
+
+        pub const BASE: Calls = Calls { $($call: $base),* };
+        pub const WIDE: Calls = Calls { $($call: $wide),* };
+    };
+}
+
+calls! {
+    new: izr_new, izr_wide_new(
         confirmed: *mut f64,
         confirmed_len: usize,
         resolved: *mut f64,
@@ -27,8 +52,8 @@ unsafe extern "C" {
         recent_len: usize,
         state: *mut u64,
         state_len: usize,
-    ) -> u32;
-    fn izr_tx_entered(
+    );
+    tx_entered: izr_tx_entered, izr_wide_tx_entered(
         state: *mut u64,
         state_len: usize,
         pending: *mut u8,
@@ -37,9 +62,16 @@ unsafe extern "C" {
         id_len: usize,
         rate: u64,
         height: u32,
-    ) -> u32;
-    fn izr_tx_left(state: *mut u64, state_len: usize, pending: *mut u8, pending_len: usize, id: *const u8, id_len: usize) -> u32;
-    fn izr_block_connected(
+    );
+    tx_left: izr_tx_left, izr_wide_tx_left(
+        state: *mut u64,
+        state_len: usize,
+        pending: *mut u8,
+        pending_len: usize,
+        id: *const u8,
+        id_len: usize,
+    );
+    block_connected: izr_block_connected, izr_wide_block_connected(
         state: *mut u64,
         state_len: usize,
         confirmed: *mut f64,
@@ -53,8 +85,8 @@ unsafe extern "C" {
         ids: *const u8,
         ids_len: usize,
         height: u32,
-    ) -> u32;
-    fn izr_estimate(
+    );
+    estimate: izr_estimate, izr_wide_estimate(
         state: *const u64,
         state_len: usize,
         confirmed: *const f64,
@@ -64,9 +96,8 @@ unsafe extern "C" {
         target: u32,
         carried: *mut u64,
         carried_len: usize,
-    ) -> u32;
-    safe fn izr_bucket_index_for_rate(rate: u64) -> u64;
-    fn izr_to_history_bytes(
+    );
+    to_history_bytes: izr_to_history_bytes, izr_wide_to_history_bytes(
         state: *const u64,
         state_len: usize,
         confirmed: *const f64,
@@ -81,8 +112,8 @@ unsafe extern "C" {
         out_len: usize,
         carried: *mut u64,
         carried_len: usize,
-    ) -> u32;
-    fn izr_from_history_bytes(
+    );
+    from_history_bytes: izr_from_history_bytes, izr_wide_from_history_bytes(
         bytes: *const u8,
         bytes_len: usize,
         confirmed: *mut f64,
@@ -97,7 +128,7 @@ unsafe extern "C" {
         state_len: usize,
         carried: *mut u64,
         carried_len: usize,
-    ) -> u32;
+    );
 }
 
 /// The lent memory of a call that changes it.
@@ -112,10 +143,10 @@ pub fn version() -> u32 {
     izr_version()
 }
 
-pub fn new(state: &mut State, lent: Lent<'_>) -> u32 {
+pub fn new<B: Board>(state: &mut State, lent: Lent<'_>) -> u32 {
     // SAFETY: five `&mut` slices, each with its own length.
     unsafe {
-        izr_new(
+        (B::CALLS.new)(
             lent.confirmed.as_mut_ptr(),
             lent.confirmed.len(),
             lent.resolved.as_mut_ptr(),
@@ -130,22 +161,24 @@ pub fn new(state: &mut State, lent: Lent<'_>) -> u32 {
     }
 }
 
-pub fn tx_entered(state: &mut State, pending: &mut [u8], id: &Txid, rate: u64, height: u32) -> u32 {
+pub fn tx_entered<B: Board>(state: &mut State, pending: &mut [u8], id: &Txid, rate: u64, height: u32) -> u32 {
     let id = id.as_bytes();
     // SAFETY: two `&mut` slices and a `&`, each with its own length.
-    unsafe { izr_tx_entered(state.as_mut_ptr(), state.len(), pending.as_mut_ptr(), pending.len(), id.as_ptr(), id.len(), rate, height) }
+    unsafe {
+        (B::CALLS.tx_entered)(state.as_mut_ptr(), state.len(), pending.as_mut_ptr(), pending.len(), id.as_ptr(), id.len(), rate, height)
+    }
 }
 
-pub fn tx_left(state: &mut State, pending: &mut [u8], id: &Txid) -> u32 {
+pub fn tx_left<B: Board>(state: &mut State, pending: &mut [u8], id: &Txid) -> u32 {
     let id = id.as_bytes();
     // SAFETY: two `&mut` slices and a `&`, each with its own length.
-    unsafe { izr_tx_left(state.as_mut_ptr(), state.len(), pending.as_mut_ptr(), pending.len(), id.as_ptr(), id.len()) }
+    unsafe { (B::CALLS.tx_left)(state.as_mut_ptr(), state.len(), pending.as_mut_ptr(), pending.len(), id.as_ptr(), id.len()) }
 }
 
-pub fn block_connected(state: &mut State, lent: Lent<'_>, ids: &[Txid], height: u32) -> u32 {
+pub fn block_connected<B: Board>(state: &mut State, lent: Lent<'_>, ids: &[Txid], height: u32) -> u32 {
     // SAFETY: five `&mut` slices and a `&`, each with its own length; a `Txid` is its 32 bytes (`repr(transparent)`), so the list is as many times 32 bytes.
     unsafe {
-        izr_block_connected(
+        (B::CALLS.block_connected)(
             state.as_mut_ptr(),
             state.len(),
             lent.confirmed.as_mut_ptr(),
@@ -163,10 +196,10 @@ pub fn block_connected(state: &mut State, lent: Lent<'_>, ids: &[Txid], height: 
     }
 }
 
-pub fn estimate(state: &State, confirmed: &[f64], resolved: &[f64], target: u32, carried: &mut u64) -> u32 {
+pub fn estimate<B: Board>(state: &State, confirmed: &[f64], resolved: &[f64], target: u32, carried: &mut u64) -> u32 {
     // SAFETY: three `&` slices and a `&mut` word, each with its own length.
     unsafe {
-        izr_estimate(
+        (B::CALLS.estimate)(
             state.as_ptr(),
             state.len(),
             confirmed.as_ptr(),
@@ -184,7 +217,7 @@ pub fn bucket_index_for_rate(rate: u64) -> u64 {
     izr_bucket_index_for_rate(rate)
 }
 
-pub fn to_history_bytes(
+pub fn to_history_bytes<B: Board>(
     state: &State,
     confirmed: &[f64],
     resolved: &[f64],
@@ -195,7 +228,7 @@ pub fn to_history_bytes(
 ) -> u32 {
     // SAFETY: five `&` slices, a `&mut` slice and a `&mut` word, each with its own length.
     unsafe {
-        izr_to_history_bytes(
+        (B::CALLS.to_history_bytes)(
             state.as_ptr(),
             state.len(),
             confirmed.as_ptr(),
@@ -214,10 +247,10 @@ pub fn to_history_bytes(
     }
 }
 
-pub fn from_history_bytes(bytes: &[u8], lent: Lent<'_>, state: &mut State, carried: &mut u64) -> u32 {
+pub fn from_history_bytes<B: Board>(bytes: &[u8], lent: Lent<'_>, state: &mut State, carried: &mut u64) -> u32 {
     // SAFETY: a `&` slice, five `&mut` slices and a `&mut` word, each with its own length.
     unsafe {
-        izr_from_history_bytes(
+        (B::CALLS.from_history_bytes)(
             bytes.as_ptr(),
             bytes.len(),
             lent.confirmed.as_mut_ptr(),

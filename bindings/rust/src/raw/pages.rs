@@ -1,10 +1,11 @@
-//! Which pages of memory a block writes. A row (25 counts of one kind of one bucket) that holds only zeros is not stored to, so that a caller who checkpoints need
-//! not copy its page. No contract can say that nothing was stored: here each page that holds only such rows is read-only while a child process makes the call,
-//! and a store there is the child's death.
+//! Which pages of memory a block writes, on each board. A row (25 counts of one kind of one bucket) that holds only zeros is not stored to, so that a caller who
+//! checkpoints need not copy its page. No contract can say that nothing was stored: here each page that holds only such rows is read-only while a child process
+//! makes the call, and a store there is the child's death.
 
 use super::{Lent, State, block_connected, new, tx_entered};
-use crate::{COUNTS, PENDING_SIZE, RECENT_SIZE, Txid, WIDEST_GAP};
+use crate::{Base, Board, COUNTS, PENDING_SIZE, RECENT_SIZE, Txid, WIDEST_GAP, Wide};
 use std::ffi::{c_int, c_long, c_void};
+use std::marker::PhantomData;
 use std::ops::Range;
 use std::ptr::null_mut;
 use std::slice;
@@ -21,6 +22,13 @@ const MAP_SHARED: c_int = 1;
 const MAP_ANONYMOUS: c_int = 0x20;
 const SC_PAGESIZE: c_int = 30;
 const SIGSEGV: c_int = 11;
+
+on_each_board! {
+    nothing_is_stored_on_an_empty_board,
+    only_rows_that_hold_something_are_stored,
+    each_kind_is_judged_by_itself,
+    a_store_to_an_empty_row_is_noticed,
+}
 
 unsafe extern "C" {
     fn mmap(at: *mut c_void, len: usize, allowed: c_int, flags: c_int, file: c_int, offset: i64) -> *mut c_void;
@@ -119,7 +127,8 @@ fn survives(work: impl FnOnce() -> bool) -> bool {
 
 /// An estimator's memory, with room for four records in each table.
 #[derive(Clone)]
-struct Memory {
+struct Memory<B: Board> {
+    board: PhantomData<B>,
     state: State,
     confirmed: Vec<f64>,
     resolved: Vec<f64>,
@@ -130,17 +139,18 @@ struct Memory {
 /// What connects a block: the library, or what stands in for it.
 type Connect = fn(&mut State, Lent<'_>, &[Txid], u32) -> u32;
 
-impl Memory {
+impl<B: Board> Memory<B> {
     fn fresh() -> Self {
         let mut fresh = Self {
+            board: PhantomData,
             state: [0; 4],
             confirmed: vec![0.0; COUNTS],
             resolved: vec![0.0; COUNTS],
             pending: vec![0; 4 * PENDING_SIZE],
             recent: vec![0; 4 * RECENT_SIZE],
         };
-        let Self { state, confirmed, resolved, pending, recent } = &mut fresh;
-        assert_eq!(new(state, Lent { confirmed, resolved, pending, recent }), 0);
+        let Self { state, confirmed, resolved, pending, recent, .. } = &mut fresh;
+        assert_eq!(new::<B>(state, Lent { confirmed, resolved, pending, recent }), 0);
         fresh
     }
 
@@ -150,13 +160,13 @@ impl Memory {
     }
 
     fn entered(mut self, byte: u8, rate: u64) -> Self {
-        assert_eq!(tx_entered(&mut self.state, &mut self.pending, &Txid([byte; 32]), rate, 100), 0);
+        assert_eq!(tx_entered::<B>(&mut self.state, &mut self.pending, &Txid([byte; 32]), rate, 100), 0);
         self
     }
 
     fn connected(mut self, ids: &[Txid], height: u32) -> Self {
-        let Self { state, confirmed, resolved, pending, recent } = &mut self;
-        assert_eq!(block_connected(state, Lent { confirmed, resolved, pending, recent }, ids, height), 0);
+        let Self { state, confirmed, resolved, pending, recent, .. } = &mut self;
+        assert_eq!(block_connected::<B>(state, Lent { confirmed, resolved, pending, recent }, ids, height), 0);
         self
     }
 
@@ -195,8 +205,8 @@ fn ids(bytes: &[u8]) -> Vec<Txid> {
 
 /// Nothing is stored to pages of empty rows, of which there are at least so many.
 #[track_caller]
-fn stores_nothing(memory: &Memory, ids: &[Txid], height: u32, row: usize, least: usize) {
-    let (protected, survived) = memory.watched(block_connected, ids, height, row);
+fn stores_nothing<B: Board>(memory: &Memory<B>, ids: &[Txid], height: u32, row: usize, least: usize) {
+    let (protected, survived) = memory.watched(block_connected::<B>, ids, height, row);
     assert!(survived, "a store to a page of empty rows");
     assert!(protected >= least, "only {protected} pages are read-only");
 }
@@ -206,28 +216,25 @@ fn all_pages() -> usize {
     (COUNTS * size_of::<f64>()).div_ceil(page_size())
 }
 
-#[test]
-fn nothing_is_stored_on_an_empty_board() {
-    let seen = Memory::fresh().connected(&[], 100);
+fn nothing_is_stored_on_an_empty_board<B: Board>() {
+    let seen = Memory::<B>::fresh().connected(&[], 100);
     stores_nothing(&seen, &[], 100 + WIDEST_GAP, ROWS - 1, 2 * all_pages());
     stores_nothing(&seen.with_minus_zeros(), &[], 100 + WIDEST_GAP, ROWS - 1, 2 * all_pages());
 }
 
-#[test]
-fn only_rows_that_hold_something_are_stored() {
+fn only_rows_that_hold_something_are_stored<B: Board>() {
     for row in 0..ROWS {
-        stores_nothing(&Memory::quad(), &ids(&[3]), 110, row, 6);
+        stores_nothing(&Memory::<B>::quad(), &ids(&[3]), 110, row, 6);
     }
-    stores_nothing(&Memory::quad(), &[], 101 + WIDEST_GAP, 33, 6);
-    stores_nothing(&Memory::quad().with_minus_zeros(), &[], 101 + WIDEST_GAP, 33, 6);
+    stores_nothing(&Memory::<B>::quad(), &[], 101 + WIDEST_GAP, 33, 6);
+    stores_nothing(&Memory::<B>::quad().with_minus_zeros(), &[], 101 + WIDEST_GAP, 33, 6);
 }
 
-#[test]
-fn each_kind_is_judged_by_itself() {
-    let late = Memory::fresh().entered(1, 5_000).connected(&[], 101);
+fn each_kind_is_judged_by_itself<B: Board>() {
+    let late = Memory::<B>::fresh().entered(1, 5_000).connected(&[], 106);
     assert!((0..ROWS).all(|row| is_empty(&late.confirmed, row)) && !is_empty(&late.resolved, 33));
     stores_nothing(&late, &[], 140, 33, all_pages());
-    let turned = Memory { confirmed: late.resolved, resolved: late.confirmed, ..Memory::fresh().connected(&[], 101) };
+    let turned = Memory { confirmed: late.resolved, resolved: late.confirmed, ..Memory::<B>::fresh().connected(&[], 106) };
     stores_nothing(&turned, &[], 140, 33, all_pages());
 }
 
@@ -239,9 +246,8 @@ fn storing_all(state: &mut State, lent: Lent<'_>, _ids: &[Txid], height: u32) ->
     0
 }
 
-#[test]
-fn a_store_to_an_empty_row_is_noticed() {
-    for memory in [Memory::fresh().connected(&[], 100), Memory::quad()] {
+fn a_store_to_an_empty_row_is_noticed<B: Board>() {
+    for memory in [Memory::<B>::fresh().connected(&[], 100), Memory::<B>::quad()] {
         for row in [0, 33, ROWS - 1] {
             let (protected, survived) = memory.watched(storing_all, &[], 102, row);
             assert!(protected > 0 && !survived);
