@@ -70,6 +70,7 @@ text=$("$top/tools/x86-64" "$program" ${words[@]+"${words[@]}"}) || die "the pro
 printf '%s\n' "$text" 2>/dev/null || { echo "$name: the output is lost" >&2; exit 1; }
 case $text in
 "refused TooLong") [ "$name" = inspect ] || echo "show: the file has more than 65,536 bytes: ./inspect takes more" >&2; exit 1 ;;
+"refused UnknownVersion 3") echo "show: version 3 is the wide board's: ./inspect takes it" >&2; exit 1 ;;
 refused*) exit 1 ;;
 "premise fails"*) exit 3 ;;
 esac

@@ -1,5 +1,5 @@
-// Reads a history file on standard input, one as large as a node's, and prints what `show` prints. With `--chain N` it first says whether the file goes with a chain of
-// height N. How it is read is in `views`, what is printed in `report` and `premise`.
+// Reads a history file of either board on standard input, one as large as a node's, and prints what `show` prints, for the targets of that board's columns. With
+// `--chain N` it first says whether the file goes with a chain of height N. How it is read is in `views`, what is printed in `report` and `premise`.
 use kinds::Height;
 use libc::STDERR_FILENO;
 use libc::STDIN_FILENO;

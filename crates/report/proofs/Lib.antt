@@ -10,6 +10,8 @@ pub mod Short
 pub mod Answered
 -- what a table held does not matter
 pub mod Alike
+-- the board that a file names
+pub mod Named
 -- the whole: what is put is what is shown
 pub mod Reported
 -- `show` never says Damaged or NoRoom

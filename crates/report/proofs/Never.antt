@@ -10,6 +10,7 @@ use lib.Dec.{T, leb}
 use lib.Ieee.{Float}
 use lib.ListN.{length, length-replicate}
 use lib.Pow.{areBytes}
+use Rattle.kinds.specs.declared.Horizon.{Horizon}
 use Rattle.rules.specs.Counts.{places-of-counts, nought}
 use Rattle.rules.specs.Board.{base}
 use Rattle.rules.specs.Estimator.{Estimator}
@@ -41,7 +42,7 @@ module _ (file : List ℕ) (b : T (areBytes file)) (h : length file ≤ of-show 
       let w = ap length (r .written) in
       let p : length (e .pending) ≤ 172 = omega arith in
       let c : length (e .recent) ≤ 210 = omega arith in
-      rw (room-for-pending of-show, room-for-recent of-show, le-leb _ _ p, le-leb _ _ c)
+      rw (room-for-pending Horizon.Base of-show, room-for-recent of-show, le-leb _ _ p, le-leb _ _ c)
 
   -- the answer is Done, or one of BadMagic, UnknownVersion and Corrupt
   pub never : (read-call version-1 base (room of-show) file .answer .number ≡ 0) ⊎ ((8 ≤ read-call version-1 base (room of-show) file .answer .number) × (read-call version-1 base (room of-show) file .answer .number ≤ 10))

@@ -9,14 +9,16 @@ use lib.ListN.{length}
 use lib.Seq.{sets, length-sets, length-take-le}
 use lib.Pow.{areBytes}
 use Rattle.io.specs.Counts.{Counts}
+use Rattle.kinds.specs.declared.FileVersion.{FileVersion}
+use Rattle.kinds.specs.declared.Horizon.{Horizon}
 use Rattle.kinds.specs.declared.State.{State}
 use Rattle.kinds.specs.declared.ReadAnswer.{ReadAnswer}
 use Rattle.kinds.specs.Answers.{read-answer}
 use Rattle.rules.specs.Records.{joined}
-use Rattle.rules.specs.Board.{base, pending-size, confirmed-size}
+use Rattle.rules.specs.Board.{board-of, pending-size, confirmed-size}
 use Rattle.rules.specs.Memory.{Lent}
 use Rattle.rules.specs.Calls.{Outcome, outcome}
-use Rattle.format.specs.File.{version-1}
+use Rattle.format.specs.File.{version-told, own-version}
 use Rattle.format.specs.Calls.{read-call}
 use Rattle.print.specs.Page.{Page, page, writes}
 use Rattle.print.specs.Text.{Text}
@@ -28,12 +30,12 @@ use Rattle.report.proofs.Pieces.{whole}
 use Rattle.report.proofs.Answered.{told-is}
 use Rattle.report.proofs.Alike.{over, told-in-room}
 
-module _ (r : Reach) (chain : Chain) (file out : List ℕ) (long : length out ≡ 2048) where
+module _ (r : Reach) (chain : Chain) (on : Horizon) (file out : List ℕ) (long : length out ≡ 2048) where
   abbrev AllPut : Text → ℕ → Type 0
-  AllPut x n = Counts n x × (page x n ≡ printed (shown r chain file) out)
+  AllPut x n = Counts n x × (page x n ≡ printed (shown r chain on file) out)
 
   -- the file's pieces, where they are short enough, are all that it shows
-  pub all-put : (ts : List Text) → ts ≡ pieces r chain file → length (joined ts) ≤ 2048 → (x : Text) (n : ℕ) → page x n ≡ writes ts (page out 0) → AllPut x n
+  pub all-put : (ts : List Text) → ts ≡ pieces r chain on file → length (joined ts) ≤ 2048 → (x : Text) (n : ℕ) → page x n ≡ writes ts (page out 0) → AllPut x n
   unfolding shown
   all-put ts e h x n put =
       let p : page x n ≡ page (sets out 0 (joined ts)) (length (joined ts)) = put ∙ whole ts out (omega arith) in
@@ -45,13 +47,14 @@ module _ (r : Reach) (chain : Chain) (file out : List ℕ) (long : length out �
   unfolding pieces line joined
   put-too-long h = all-put (line refused too-long) (sym (rw (lt-ltb (r .longest) (length file) h))) (omega arith)
 
--- what a reading into tables of these lengths tells is what the file's pieces are
-pub told-pieces : (chain : Chain) (file : List ℕ) → T (areBytes file) → (longest : ℕ) → length file ≤ longest → (pending recent : List ℕ) (a : ReadAnswer) (s : State) (l : Lent)
-    → outcome (read-answer a) s l ≡ read-call version-1 base (over pending recent) file
-    → told chain (read-answer a) s (answered s (l .confirmed) (l .resolved)) ≡ pieces (reach (length pending / pending-size) (length recent / confirmed-size) longest) chain file
+-- what a reading into tables of these lengths tells, of the board's own version, is what the file's pieces are
+pub told-pieces : (chain : Chain) (on : Horizon) (file : List ℕ) → T (areBytes file) → (longest : ℕ) → length file ≤ longest → (pending recent : List ℕ) (v : FileVersion) → v ≡ own-version on
+    → (a : ReadAnswer) (s : State) (l : Lent) → outcome (read-answer a) s l ≡ read-call (version-told v) (board-of on) (over pending recent) file
+    → told chain on (read-answer a) s (answered s (l .confirmed) (l .resolved) on) ≡ pieces (reach (length pending / pending-size) (length recent / confirmed-size) longest) chain on file
 unfolding pieces
-told-pieces chain file b longest h pending recent a s l e =
-    ap (λ (o : Outcome Lent). told chain (o .answer) (o .state) (answered (o .state) (o .lent .confirmed) (o .lent .resolved))) e
-    ∙ told-is chain (over pending recent) file b
-    ∙ told-in-room chain pending recent longest file
+told-pieces chain on file b longest h pending recent v own a s l e =
+    ap (λ (o : Outcome Lent). told chain on (o .answer) (o .state) (answered (o .state) (o .lent .confirmed) (o .lent .resolved) on))
+    (e ∙ ap (λ (w : FileVersion). read-call (version-told w) (board-of on) (over pending recent) file) own)
+    ∙ told-is chain on (over pending recent) file b
+    ∙ told-in-room chain on pending recent longest file
     ∙ sym (rw (le-ltb longest (length file) h))

@@ -7,19 +7,21 @@ use native.Mathlib.Omega.{arith}
 use lib.Dec.{ltb}
 use lib.ListN.{length, length-append}
 use lib.Ieee.{Float}
+use Rattle.kinds.specs.declared.Horizon.{Horizon}
 use Rattle.kinds.specs.declared.Last.{Last}
 use Rattle.kinds.specs.declared.Last.the-variants.{Nothing, At}
 use Rattle.kinds.specs.declared.State.{State}
 use Rattle.kinds.specs.declared.ReadAnswer.{ReadAnswer}
 use Rattle.kinds.specs.Answers.{read-answer}
 use Rattle.rules.specs.Records.{joined}
+use Rattle.rules.specs.Board.{board-of}
 use Rattle.rules.specs.Calls.{widest-gap}
 use Rattle.print.specs.Numerals.{decimal-in, decimal}
 use Rattle.print.specs.Text.{Text}
 use Rattle.premise.specs.declared.Chain.{Chain}
 use Rattle.premise.specs.declared.Chain.the-variants.{Untold, Tip}
 use Rattle.premise.specs.Premise.{between, ahead, behind, level, beside, no-last, premise}
-use Rattle.report.specs.Shown.{line, last-text, state-lines, target-lines, name, carried, refusal, told}
+use Rattle.report.specs.Shown.{line, last-text, state-lines, target-line, target-lines, name, carried, refusal, told}
 use Rattle.report.specs.Rates.{carried-rate, answered}
 
 decimal-in-short : (k n : ℕ) → length (decimal-in k n) ≤ k
@@ -58,13 +60,13 @@ state-short s =
     let r = decimal-short (s .recent) in
     simp length-append (omega arith)
 
-lines-short : (f : ℕ → Text) → ((t : ℕ) → length (f t) ≤ 20) → (t n : ℕ) → length (joined (target-lines f t n)) ≤ 42 * n
-unfolding joined target-lines
-lines-short f h t zero = omega arith
-lines-short f h t (suc n) =
-    let d = decimal-short t in
-    let x = h t in
-    let i = lines-short f h (suc t) n in
+lines-short : (width : ℕ) (f : ℕ → Text) → ((t : ℕ) → length (f t) ≤ 20) → (c n : ℕ) → length (joined (target-lines width f c n)) ≤ 42 * n
+unfolding joined target-line target-lines
+lines-short width f h c zero = omega arith
+lines-short width f h c (suc n) =
+    let d = decimal-short (width * c) in
+    let x = h (width * c) in
+    let i = lines-short width f h (suc c) n in
     simp length-append (omega arith)
 
 beside-short : (h n : ℕ) → length (joined (beside h n)) ≤ 250
@@ -82,16 +84,17 @@ premise-short Untold l = omega arith
 premise-short (Tip n) Nothing = omega arith
 premise-short (Tip n) (At h) = beside-short (h .0) (n .0)
 
-pub told-short : (chain : Chain) (a : ReadAnswer) (s : State) (f : ℕ → Text) → ((t : ℕ) → length (f t) ≤ 20) → length (joined (told chain (read-answer a) s f)) ≤ 2048
+pub told-short : (chain : Chain) (on : Horizon) (a : ReadAnswer) (s : State) (f : ℕ → Text) → ((t : ℕ) → length (f t) ≤ 20) → length (joined (told chain on (read-answer a) s f)) ≤ 2048
 unfolding told refusal name carried joined
-told-short chain ReadAnswer.Done s f h =
-    omega (arith, length-joined (premise chain (s .last)) (state-lines s ++ target-lines f 1 25), premise-short chain (s .last), length-joined (state-lines s) (target-lines f 1 25), state-short s, lines-short f h 1 25)
-told-short chain ReadAnswer.Damaged s f h = omega arith
-told-short chain ReadAnswer.BadMagic s f h = omega arith
-told-short chain (ReadAnswer.UnknownVersion v) s f h = simp length-append (omega (arith, decimal-short v))
-told-short chain ReadAnswer.Corrupt s f h = omega arith
-told-short chain ReadAnswer.NoRoom s f h = omega arith
+told-short chain on ReadAnswer.Done s f h =
+    let w = board-of on .width in
+    omega (arith, length-joined (premise chain (s .last)) (state-lines s ++ target-lines w f 1 25), premise-short chain (s .last), length-joined (state-lines s) (target-lines w f 1 25), state-short s, lines-short w f h 1 25)
+told-short chain on ReadAnswer.Damaged s f h = omega arith
+told-short chain on ReadAnswer.BadMagic s f h = omega arith
+told-short chain on (ReadAnswer.UnknownVersion v) s f h = simp length-append (omega (arith, decimal-short v))
+told-short chain on ReadAnswer.Corrupt s f h = omega arith
+told-short chain on ReadAnswer.NoRoom s f h = omega arith
 
-pub answered-short : (s : State) (confirmed resolved : List Float) (t : ℕ) → length (answered s confirmed resolved t) ≤ 20
+pub answered-short : (s : State) (confirmed resolved : List Float) (on : Horizon) (t : ℕ) → length (answered s confirmed resolved on t) ≤ 20
 unfolding answered
-answered-short s confirmed resolved t = rate-short _
+answered-short s confirmed resolved on t = rate-short _

@@ -1,52 +1,60 @@
--- The lines of the targets, one after the other: what is left to be told, told from here, is what was to be told at first. Assumes nothing.
+-- The lines of the columns' targets, one after the other: what is left to be told, told from here, is what was to be told at first. Assumes nothing.
 use mathlib.Core.Path.{_≡_, refl, sym, ap, ap₂, _∙_}
 use mathlib.Core.List.{List, _∷_}
-use Prim.Native.Nat.{ℕ, zero, suc, _+_, _-_, _≤_, _<_}
+use Prim.Native.Nat.{ℕ, zero, suc, _+_, _*_, _-_, _≤_, _<_}
 use native.Mathlib.Numerals.{add-one}
 use native.Mathlib.Omega.{arith}
+use Rattle.kinds.specs.declared.Horizon.{Horizon}
+use Rattle.rules.specs.Board.{board-of}
 use Rattle.print.specs.Page.{Page, write, writes}
 use Rattle.print.specs.Numerals.{decimal}
 use Rattle.print.specs.Text.{Text}
 use Rattle.report.specs.Words.{space, end}
-use Rattle.report.specs.Shown.{target-lines}
+use Rattle.report.specs.Shown.{target-line, target-lines}
 
-module _ (rate : ℕ → Text) where
-  -- one line of four pieces
-  pub one-line : (t : ℕ) (x : Text) (p : Page) {q r s z : Page} → q ≡ write (decimal t) p → r ≡ write space q → s ≡ write x r → z ≡ write end s → x ≡ rate t
-      → z ≡ writes (target-lines rate t 1) p
-  unfolding writes target-lines
-  one-line t x p a b c d e = d ∙ ap (write end) (c ∙ ap (write x) (b ∙ ap (write space) a)) ∙ ap (λ (y : Text). write end (write y (write space (write (decimal t) p)))) e
+-- one line of four pieces
+pub one-line : (rate : ℕ → Text) (t : ℕ) (x : Text) (p : Page) {q r s z : Page} → q ≡ write (decimal t) p → r ≡ write space q → s ≡ write x r → z ≡ write end s → x ≡ rate t
+    → z ≡ writes (target-line rate t) p
+unfolding writes target-line
+one-line rate t x p a b c d e = d ∙ ap (write end) (c ∙ ap (write x) (b ∙ ap (write space) a)) ∙ ap (λ (y : Text). write end (write y (write space (write (decimal t) p)))) e
 
-  next-line : (t n : ℕ) (p : Page) {q : Page} → q ≡ writes (target-lines rate t 1) p → writes (target-lines rate (suc t) n) q ≡ writes (target-lines rate t (suc n)) p
-  unfolding writes target-lines
-  next-line t n p e = ap (writes (target-lines rate (suc t) n)) e
+module _ (width : ℕ) (rate : ℕ → Text) where
+  next-line : (c n : ℕ) (p : Page) {q : Page} → q ≡ writes (target-line rate (width * c)) p → writes (target-lines width rate (suc c) n) q ≡ writes (target-lines width rate c (suc n)) p
+  unfolding writes target-line target-lines
+  next-line c n p e = ap (writes (target-lines width rate (suc c) n)) e
 
-  -- the targets from t to 25 are left
-  pub record Left (first : Page) (t : ℕ) (p : Page) : Type 0 where
-    pub low : 1 ≤ t
-    pub high : t ≤ 26
-    pub left : writes (target-lines rate t (26 - t)) p ≡ writes (target-lines rate 1 25) first
+  -- the columns from c to 25 are left
+  pub record Left (first : Page) (c : ℕ) (p : Page) : Type 0 where
+    pub low : 1 ≤ c
+    pub high : c ≤ 26
+    pub left : writes (target-lines width rate c (26 - c)) p ≡ writes (target-lines width rate 1 25) first
 
   pub start : (p : Page) → Left p 1 p
   start p = record { low = omega arith; high = omega arith; left = refl }
 
-  pub next : {first p q : Page} (t : ℕ) → Left first t p → t < 26 → q ≡ writes (target-lines rate t 1) p → Left first (t + 1) q
-  next {first} {p} {q} t l h e =
-      let n : 26 - t ≡ suc (26 - (t + 1)) = omega arith in
+  pub next : {first p q : Page} (c : ℕ) → Left first c p → c < 26 → q ≡ writes (target-line rate (width * c)) p → Left first (c + 1) q
+  next {first} {p} {q} c l h e =
+      let n : 26 - c ≡ suc (26 - (c + 1)) = omega arith in
       record {
         low = omega arith;
         high = omega arith;
-        left = ap (λ (u : ℕ). writes (target-lines rate u (26 - (t + 1))) q) (add-one t) ∙ next-line t (26 - (t + 1)) p e ∙ ap (λ (m : ℕ). writes (target-lines rate t m) p) (sym n) ∙ l .left;
+        left = ap (λ (d : ℕ). writes (target-lines width rate d (26 - (c + 1))) q) (add-one c) ∙ next-line c (26 - (c + 1)) p e ∙ ap (λ (m : ℕ). writes (target-lines width rate c m) p) (sym n) ∙ l .left;
       }
 
-  pub stop : {first p : Page} (t : ℕ) → Left first t p → 26 ≤ t → p ≡ writes (target-lines rate 1 25) first
+  pub stop : {first p : Page} (c : ℕ) → Left first c p → 26 ≤ c → p ≡ writes (target-lines width rate 1 25) first
   unfolding writes target-lines
-  stop {first} {p} t l h =
-      let n : 26 - t ≡ 0 = omega (arith, l .low) in
-      ap (λ (m : ℕ). writes (target-lines rate t m) p) (sym n) ∙ l .left
+  stop {first} {p} c l h =
+      let n : 26 - c ≡ 0 = omega (arith, l .low) in
+      ap (λ (m : ℕ). writes (target-lines width rate c m) p) (sym n) ∙ l .left
+
+-- a column's target is at most 150 blocks
+pub few-blocks : (on : Horizon) (c : ℕ) → c ≤ 25 → board-of on .width * c ≤ 150
+few-blocks Horizon.Base c h = omega arith
+few-blocks Horizon.Wide c h = omega arith
 
 -- the same rates, the same lines
-pub lines-same : (f g : ℕ → Text) → ((t : ℕ) → f t ≡ g t) → (t n : ℕ) → target-lines f t n ≡ target-lines g t n
-unfolding target-lines
-lines-same f g h t zero = refl
-lines-same f g h t (suc n) = ap₂ (λ (x : Text) (l : List Text). decimal t ∷ space ∷ x ∷ end ∷ l) (h t) (lines-same f g h (suc t) n)
+pub lines-same : (width : ℕ) (f g : ℕ → Text) → ((t : ℕ) → f t ≡ g t) → (c n : ℕ) → target-lines width f c n ≡ target-lines width g c n
+unfolding target-line target-lines
+lines-same width f g h c zero = refl
+lines-same width f g h c (suc n) =
+    ap₂ (λ (x : Text) (l : List Text). decimal (width * c) ∷ space ∷ x ∷ end ∷ l) (h (width * c)) (lines-same width f g h (suc c) n)

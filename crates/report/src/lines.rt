@@ -1,7 +1,9 @@
 // The lines that are printed, put into a buffer at a cursor. Each function answers the next cursor.
-use estimator::estimate;
+use boards::width_of;
+use estimates::estimate;
 use kinds::Blocks;
 use kinds::Estimated;
+use kinds::Horizon;
 use kinds::Last;
 use kinds::MAX_CONF_TARGET;
 use kinds::State;
@@ -13,12 +15,13 @@ use print::put_decimal;
 ghost use mathlib.Core.Path.{_≡_};
 ghost use Rattle.kinds.specs.Answers.{unknown-version, estimate-answer};
 ghost use Rattle.rules.specs.Counts.{columns};
+ghost use Rattle.rules.specs.Board.{board-of};
 ghost use mathlib.Core.List.{_++_};
 ghost use Rattle.print.specs.Page.{page, write, writes};
 ghost use Rattle.print.specs.Numerals.{decimal};
 ghost use Rattle.premise.specs.Premise.{premise};
 ghost use Rattle.report.specs.Words.{height, refused};
-ghost use Rattle.report.specs.Shown.{line, last-text, state-lines, target-lines, refusal};
+ghost use Rattle.report.specs.Shown.{line, last-text, state-lines, target-line, target-lines, refusal};
 ghost use Rattle.report.specs.Rates.{carried-rate, answered};
 
 // A word and what is told of it.
@@ -96,34 +99,39 @@ fn put_target(
     state: State,
     confirmed: &[f64],
     resolved: &[f64],
+    on: Horizon,
 ) -> usize
-    ensures { λ r. ⌜ page (now (out .exit)) r ≡ writes (target-lines (answered state (now (confirmed .entry)) (now (resolved .entry))) t 1) (page (now (out .entry)) at) ⌝ }
+    ensures { λ r. ⌜ page (now (out .exit)) r ≡ writes (target-line (answered state (now (confirmed .entry)) (now (resolved .entry)) on) t) (page (now (out .entry)) at) ⌝ }
 {
-    let e = estimate(state, confirmed, resolved, Blocks(t));
+    let e = estimate(state, confirmed, resolved, Blocks(t), on);
     let a = put_decimal(out, at, t as u64);
     let b = put_byte(out, a, b' ');
     let c = put_rate(out, b, e);
     put_byte(out, c, b'\n')
 }
 
-// The last target that is told, and as many are.
-const TARGETS: u32 = MAX_CONF_TARGET as u32;
+// The last column whose target is told, and as many are.
+const COLUMNS: u32 = MAX_CONF_TARGET as u32;
 
-// Each target and its rate.
+// The target of each column and its rate.
 fn put_targets(
     out: &mut [u8],
     from: usize,
     state: State,
     confirmed: &[f64],
     resolved: &[f64],
+    on: Horizon,
 ) -> usize
-    ensures { λ r. ⌜ page (now (out .exit)) r ≡ writes (target-lines (answered state (now (confirmed .entry)) (now (resolved .entry))) 1 columns) (page (now (out .entry)) from) ⌝ }
+    ensures { λ r. ⌜
+        page (now (out .exit)) r
+        ≡ writes (target-lines (board-of on .width) (answered state (now (confirmed .entry)) (now (resolved .entry)) on) 1 columns) (page (now (out .entry)) from) ⌝ }
 {
+    let width = width_of(on).0;
     let mut at = from;
-    let mut t: u32 = 1;
-    while t <= TARGETS {
-        at = put_target(out, at, t, state, confirmed, resolved);
-        t += 1;
+    let mut c: u32 = 1;
+    while c <= COLUMNS {
+        at = put_target(out, at, width * c, state, confirmed, resolved, on);
+        c += 1;
     }
     at
 }
@@ -135,15 +143,16 @@ pub(crate) fn put_accepted(
     state: State,
     confirmed: &[f64],
     resolved: &[f64],
+    on: Horizon,
 ) -> usize
     ensures { λ r. ⌜
         page (now (out .exit)) r
         ≡ writes
-        (premise chain (state .last) ++ (state-lines state ++ target-lines (answered state (now (confirmed .entry)) (now (resolved .entry))) 1 columns))
+        (premise chain (state .last) ++ (state-lines state ++ target-lines (board-of on .width) (answered state (now (confirmed .entry)) (now (resolved .entry)) on) 1 columns))
         (page (now (out .entry)) 0) ⌝ }
 {
     let last = state.last;
     let a = put_premise(out, 0, chain, last);
     let b = put_state(out, a, state);
-    put_targets(out, b, state, confirmed, resolved)
+    put_targets(out, b, state, confirmed, resolved, on)
 }

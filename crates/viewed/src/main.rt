@@ -30,7 +30,8 @@ fn beside(name: &[u8], height: u32) {
 }
 
 // 65,536 bytes and one more, an unknown version, and no byte at all. Then what `inspect` takes and what is too long for it; a file with no last height; and one whose
-// last height is 101, beside each side of the two edges.
+// last height is 101, beside each side of the two edges. Last, files of the wide board: a fresh one, which `show` does not take; one with rates in all columns but the
+// first, alone and beside a chain; and a fresh one that says that its columns are one block wide.
 fn main() {
     shown(b"65536_zeros");
     shown(b"65537_zeros");
@@ -43,4 +44,10 @@ fn main() {
     beside(b"quad", 101);
     beside(b"quad", 4197);
     beside(b"quad", 4198);
+    shown(b"wide_fresh");
+    inspected(b"wide_fresh", Chain::Untold);
+    inspected(b"wide_three", Chain::Untold);
+    beside(b"wide_three", 112);
+    beside(b"wide_three", 113);
+    inspected(b"wide_width_1", Chain::Untold);
 }

@@ -2,17 +2,20 @@
 // than the longest file, by which a longer one is known.
 use codec::numbers::take;
 use kinds::CONFIRMED_SIZE;
+use kinds::Horizon;
 use kinds::PENDING_SIZE;
 use premise::Chain;
 use report::PAGE;
+use report::named_by;
 use report::report;
 ghost use Prim.Native.Nat.{_<_};
 ghost use mathlib.Core.Path.{_≡_};
 ghost use lib.ListN.{length, take};
 ghost use Rattle.io.specs.Counts.{Counts};
+ghost use Rattle.kinds.specs.declared.Horizon.{Horizon};
 ghost use Rattle.print.specs.Page.{page};
 ghost use Rattle.premise.specs.declared.Chain.the-variants.{Untold};
-ghost use Rattle.report.specs.Shown.{of-show, of-inspect, shown, printed};
+ghost use Rattle.report.specs.Shown.{of-show, of-inspect, named-by, shown, printed};
 
 // ---- show
 
@@ -36,7 +39,7 @@ pub fn show_text(
 ) -> usize
     ensures { λ r. ⌜ Counts r (now (out .exit)) ⌝ }
     ensures { λ r. ⌜ of-show .longest < length (now (file .entry)) ⌝ }
-    ensures { λ r. ⌜ page (now (out .exit)) r ≡ printed (shown of-show Untold (take n (now (file .entry)))) (now (out .entry)) ⌝ }
+    ensures { λ r. ⌜ page (now (out .exit)) r ≡ printed (shown of-show Untold Horizon.Base (take n (now (file .entry)))) (now (out .entry)) ⌝ }
 {
     report(
         take(file, n),
@@ -45,6 +48,7 @@ pub fn show_text(
         pending,
         recent,
         out,
+        Horizon::Base,
     )
 }
 
@@ -61,8 +65,8 @@ pub fn show(input: i32, output: i32) -> bool {
 
 // ---- inspect
 
-// The most bytes of a file, and the room for its records.
-const INSPECT_LONGEST: usize = 3197965;
+// The most bytes of a file of either board, and the room for its records.
+const INSPECT_LONGEST: usize = 3197969;
 
 const INSPECT_PENDING: usize = 10000 * PENDING_SIZE;
 
@@ -82,9 +86,13 @@ pub fn inspect_text(
 ) -> usize
     ensures { λ r. ⌜ Counts r (now (out .exit)) ⌝ }
     ensures { λ r. ⌜ of-inspect .longest < length (now (file .entry)) ⌝ }
-    ensures { λ r. ⌜ page (now (out .exit)) r ≡ printed (shown of-inspect chain (take n (now (file .entry)))) (now (out .entry)) ⌝ }
+    ensures { λ r. ⌜
+        page (now (out .exit)) r
+        ≡ printed (shown of-inspect chain (named-by (take n (now (file .entry)))) (take n (now (file .entry)))) (now (out .entry)) ⌝ }
 {
-    report(take(file, n), INSPECT_LONGEST, chain, pending, recent, out)
+    let part = take(file, n);
+    let on = named_by(part);
+    report(part, INSPECT_LONGEST, chain, pending, recent, out, on)
 }
 
 // Reads a history, and writes what `inspect` prints of it beside a chain; whether all was written.
@@ -107,7 +115,7 @@ fn show_zeros() -> [u8; SHOW_BUFFER]
 }
 
 fn inspect_zeros() -> [u8; INSPECT_BUFFER]
-    ensures { λ r. ⌜ 3197966 ≡ length r ⌝ }
+    ensures { λ r. ⌜ 3197970 ≡ length r ⌝ }
 {
     [0u8; INSPECT_BUFFER]
 }

@@ -15,21 +15,22 @@ returns c =
     let t = c .before .before .before in
     let a = t .before .before .before .before .args in
     let n : length (now (a .out)) ≡ 2048 = search needs in
-    put-too-long _ (a .chain) (now (a .file)) (now (a .out)) n (t .if1 .taken) _ _ (c .put-refused .ensures)
+    put-too-long _ (a .chain) (a .on) (now (a .file)) (now (a .out)) n (t .if1 .taken) _ _ (c .put-refused .ensures)
 
 returns-2 : tie.Need-returns-2
 unfolding ofBits
 returns-2 c =
     let h = c .before .before .before .before .before .before .before .before .before .before .before in
-    let t = h .before .before .before .before .before in
-    let k = t .before .before .before in
-    let a = k .before .args in
-    let n : length (now (a .out)) ≡ 2048 = search needs in
-    let b = are-bytes (now (a .file)) (λ i. k .shared-slice-known .given i .fits) in
+    let v = h .before .before .before .before .before in
+    let t = v .before in
+    let s = t .before .before .before in
+    let a = s .before .args in
+    let n : length (now (a .out)) ≡ 2048 = search (needs, c .before .before .before .tell-arg .given) in
+    let b = are-bytes (now (a .file)) (λ i. s .shared-slice-known .given i .fits) in
     let r = h .from-history-bytes in
-    all-put _ (a .chain) (now (a .file)) (now (a .out)) n _
-    (told-pieces (a .chain) (now (a .file)) b (a .longest) (t .if1 .left) (now (a .pending)) (now (a .recent)) (r .result .answer) (r .result .state) _ (r .ensures))
-    (told-short (a .chain) (r .result .answer) (r .result .state) _ (answered-short (r .result .state) _ _)) _ _ (c .tell .ensures)
+    all-put _ (a .chain) (a .on) (now (a .file)) (now (a .out)) n _
+    (told-pieces (a .chain) (a .on) (now (a .file)) b (a .longest) (t .if1 .left) (now (a .pending)) (now (a .recent)) _ (v .own-version .ensures) (r .result .answer) (r .result .state) _ (r .ensures))
+    (told-short (a .chain) (a .on) (r .result .answer) (r .result .state) _ (answered-short (r .result .state) _ _ (a .on))) _ _ (c .tell .ensures)
 
 pub report-spec : {M : Type 1} → statement M
 report-spec =
@@ -38,6 +39,7 @@ report-spec =
     (λ c. search needs)
     (λ c κs. search needs)
     returns
+    (λ c κs. search needs)
     (λ c. search needs)
     (λ c. search needs)
     (λ c κs. search needs)

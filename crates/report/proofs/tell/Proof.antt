@@ -17,12 +17,12 @@ abbrev first : tie.Start → Page
 first k = page (now (k .args .out)) 0
 
 abbrev rates : tie.Start → ℕ → Text
-rates k = answered (k .args .state) (now (k .args .confirmed)) (now (k .args .resolved))
+rates k = answered (k .args .state) (now (k .args .confirmed)) (now (k .args .resolved)) (k .args .on)
 
 -- what is told of the answer that it is
-as-told : (k : tie.Start) (a : ReadAnswer) {z : Page} → k .args .answer ≡ a → z ≡ writes (told (k .args .chain) (read-answer a) (k .args .state) (rates k)) (first k)
-    → z ≡ writes (told (k .args .chain) (read-answer (k .args .answer)) (k .args .state) (rates k)) (first k)
-as-told k a e h = h ∙ ap (λ (x : ReadAnswer). writes (told (k .args .chain) (read-answer x) (k .args .state) (rates k)) (first k)) (sym e)
+as-told : (k : tie.Start) (a : ReadAnswer) {z : Page} → k .args .answer ≡ a → z ≡ writes (told (k .args .chain) (k .args .on) (read-answer a) (k .args .state) (rates k)) (first k)
+    → z ≡ writes (told (k .args .chain) (k .args .on) (read-answer (k .args .answer)) (k .args .state) (rates k)) (first k)
+as-told k a e h = h ∙ ap (λ (x : ReadAnswer). writes (told (k .args .chain) (k .args .on) (read-answer x) (k .args .state) (rates k)) (first k)) (sym e)
 
 returns : tie.Need-returns
 unfolding told

@@ -6,4 +6,4 @@ use Rattle.views.proofs.inspect_zeros.Statement.{statement}
 use Rattle.views.proofs.inspect_zeros.Tie as tie
 
 pub inspect-zeros-spec : {M : Type 1} → statement M
-inspect-zeros-spec = tie.close (tie.spec (λ c. sym (length-replicate {0} {A = ℕ} 3197966 0)))
+inspect-zeros-spec = tie.close (tie.spec (λ c. sym (length-replicate {0} {A = ℕ} 3197970 0)))

@@ -12,7 +12,7 @@ returns : tie.Need-returns
 unfolding answered
 returns c =
     let a = c .before .before .before .before .before .before .before .before .before .before .before .before .before .before .before .before .before .before .before .before .args in
-    one-line (answered (a .state) (now (a .confirmed)) (now (a .resolved))) (a .t) _ _ (c .before .before .before .before .before .before .before .before .before .before .before .before .before .before .put-decimal .ensures) (c .before .before .before .before .before .before .before .before .before .before .put-byte .ensures) (c .before .before .before .before .before .before .put-rate .ensures)
+    one-line (answered (a .state) (now (a .confirmed)) (now (a .resolved)) (a .on)) (a .t) _ _ (c .before .before .before .before .before .before .before .before .before .before .before .before .before .before .put-decimal .ensures) (c .before .before .before .before .before .before .before .before .before .before .put-byte .ensures) (c .before .before .before .before .before .before .put-rate .ensures)
     (c .before .before .put-byte2 .ensures) (ap (λ (x : Answer). carried-rate (x .carries)) (c .before .before .before .before .before .before .before .before .before .before .before .before .before .before .before .before .estimate .ensures))
 
 pub put-target-spec : {M : Type 1} → statement M
