@@ -26,9 +26,14 @@
  * Used records stand first, their ids rising strictly (as unsigned bytes from the first); the places after them are zero. A table has room for as many
  * records as its slice holds, up to its most. What is lent beyond all that is neither read nor written.
  *
- * Threads. The library has no memory of its own, so calls on different estimators may run at the same time. On one estimator izr_estimate and
- * izr_to_history_bytes only read: any number of them may run at the same time, each with a carried and an out of its own. Every other call that is lent an
- * estimator, or a part of it, changes it, and runs while no other call does on that estimator. izr_version and izr_bucket_index_for_rate are lent nothing.
+ * Boards. An estimator is of the base board, which looks 25 blocks ahead, or of the wide board, which looks 150 blocks ahead and forgets more slowly. The
+ * functions izr_wide_* are for the wide board: what stands here holds for them too, with the differences that stand before them. Only a history tells of
+ * which board it is, and memory does not: an estimator is lent to the functions of one board alone. A caller may keep one of each side by side.
+ *
+ * Threads. The library has no memory of its own, so calls on different estimators may run at the same time. On one estimator the calls that estimate and
+ * those that write a history only read: any number of them may run at the same time, each with a carried and an out of its own. Every other call that is
+ * lent an estimator, or a part of it, changes it, and runs while no other call does on that estimator. izr_version and izr_bucket_index_for_rate are lent
+ * nothing.
  *
  * Each call answers one of the numbers below, and its comment says which: IZR_DONE, or a refusal. A refused call changes nothing that it was lent, but for
  * carried[0] on IZR_UNKNOWN_VERSION and IZR_SHORT_OUTPUT. Where more than one refusal would be right, the one that is named first is answered.
@@ -61,6 +66,13 @@ enum {
     IZR_MOST_TARGET = 25,
     /* The length of a history is this, plus 4 with a last height, plus IZR_PENDING_SIZE and IZR_RECENT_SIZE for each record. */
     IZR_HISTORY_SIZE = 57961
+};
+
+/* The wide board's: how many blocks a column is wide, and what it has in the place of IZR_MOST_TARGET and IZR_HISTORY_SIZE. */
+enum {
+    IZR_WIDE_WIDTH = 6,
+    IZR_WIDE_MOST_TARGET = 150,
+    IZR_WIDE_HISTORY_SIZE = 57965
 };
 
 /* The answers. */
@@ -141,11 +153,11 @@ uint32_t izr_block_connected(uint64_t *state, size_t state_len, double *confirme
 uint32_t izr_estimate(const uint64_t *state, size_t state_len, const double *confirmed, size_t confirmed_len, const double *resolved,
                       size_t resolved_len, uint32_t target, uint64_t *carried, size_t carried_len);
 
-/* The bucket, from 0 to 141, that a rate belongs to. It answers the bucket's number. */
+/* The bucket, from 0 to 141, that a rate belongs to, on either board. It answers the bucket's number. */
 uint64_t izr_bucket_index_for_rate(uint64_t rate);
 
 /*
- * Writes the history file into out; out past its length is untouched. It judges the state, all memory and carried.
+ * Writes the history file, of version 1, into out; out past its length is untouched. It judges the state, all memory and carried.
  *
  *   IZR_DONE             carried[0] is how many bytes were written
  *   IZR_DAMAGED
@@ -156,18 +168,79 @@ uint32_t izr_to_history_bytes(const uint64_t *state, size_t state_len, const dou
                               uint8_t *out, size_t out_len, uint64_t *carried, size_t carried_len);
 
 /*
- * Reads a history file. The memory may hold anything before; refused, it is left as it is.
+ * Reads a history file, of version 1. The memory may hold anything before; refused, it is left as it is.
  *
  *   IZR_DONE
  *   IZR_DAMAGED          a count slice is too short, the state has fewer than four words, or carried has none
  *   IZR_BAD_MAGIC        the first eight bytes are there, and are not a history's
- *   IZR_UNKNOWN_VERSION  carried[0] is the version
+ *   IZR_UNKNOWN_VERSION  carried[0] is the version: 3 for a history of the wide board
  *   IZR_CORRUPT          the bytes are no history file
  *   IZR_NO_ROOM          a table of the file has more records, repeats counted, than there is room for
  */
 uint32_t izr_from_history_bytes(const uint8_t *bytes, size_t bytes_len, double *confirmed, size_t confirmed_len, double *resolved,
                                 size_t resolved_len, uint8_t *pending, size_t pending_len, uint8_t *recent, size_t recent_len, uint64_t *state,
                                 size_t state_len, uint64_t *carried, size_t carried_len);
+
+/*
+ * The wide board. Each function has the parameters of its namesake above, judges the same in the same order, and is lent an estimator of its own, of the
+ * same sizes. What differs:
+ *
+ *   columns   There are 25 of IZR_WIDE_WIDTH blocks each in the place of 25 targets: the counts of bucket b and column c, from 1 to 25, stand at
+ *             b * 25 + c - 1, and column c is for waits of up to IZR_WIDE_WIDTH * c blocks. A pending record has at 40 how many columns, from the first,
+ *             are counted as resolved already (0 to 25).
+ *   decay     At each height every count is multiplied by 0.9995, and not by 0.998.
+ *   records   A pending record lasts until 150 blocks after its entry, and not 25. A confirmed record stays 25 blocks, as on the base board.
+ *   history   It is of version 3: directly after the version stands IZR_WIDE_WIDTH, in four bytes. So it is IZR_WIDE_HISTORY_SIZE bytes long, plus 4 with a
+ *             last height, plus IZR_PENDING_SIZE and IZR_RECENT_SIZE for each record. Each board refuses the history of the other.
+ */
+
+/* A fresh start. Its answers are those of izr_new. */
+uint32_t izr_wide_new(double *confirmed, size_t confirmed_len, double *resolved, size_t resolved_len, uint8_t *pending, size_t pending_len,
+                      uint8_t *recent, size_t recent_len, uint64_t *state, size_t state_len);
+
+/* A transaction enters the mempool at a height, with a fee rate in satoshi per kvB. Its answers are those of izr_tx_entered. */
+uint32_t izr_wide_tx_entered(uint64_t *state, size_t state_len, uint8_t *pending, size_t pending_len, const uint8_t *id, size_t id_len,
+                             uint64_t rate, uint32_t height);
+
+/* A transaction leaves the mempool unconfirmed. Its answers are those of izr_tx_left. */
+uint32_t izr_wide_tx_left(uint64_t *state, size_t state_len, uint8_t *pending, size_t pending_len, const uint8_t *id, size_t id_len);
+
+/*
+ * A block is connected, with the ids that it confirms. Its answers are those of izr_block_connected; the blocks of no ids that lead on from a refusal are
+ * blocks of this function.
+ */
+uint32_t izr_wide_block_connected(uint64_t *state, size_t state_len, double *confirmed, size_t confirmed_len, double *resolved,
+                                  size_t resolved_len, uint8_t *pending, size_t pending_len, uint8_t *recent, size_t recent_len,
+                                  const uint8_t *ids, size_t ids_len, uint32_t height);
+
+/*
+ * The lowest rate at which a transaction is confirmed within so many blocks, from the first column that is for as many or more: column 1 for targets 1 to
+ * IZR_WIDE_WIDTH. Target 0 has none; above IZR_WIDE_MOST_TARGET means IZR_WIDE_MOST_TARGET. It judges the state, the counts and carried.
+ *
+ *   IZR_DONE             carried[0] is the rate in satoshi per kvB, or 0 where there is none (a rate is never 0)
+ *   IZR_DAMAGED
+ */
+uint32_t izr_wide_estimate(const uint64_t *state, size_t state_len, const double *confirmed, size_t confirmed_len, const double *resolved,
+                           size_t resolved_len, uint32_t target, uint64_t *carried, size_t carried_len);
+
+/* Writes the history file, of version 3, into out; out past its length is untouched. Its answers are those of izr_to_history_bytes. */
+uint32_t izr_wide_to_history_bytes(const uint64_t *state, size_t state_len, const double *confirmed, size_t confirmed_len, const double *resolved,
+                                   size_t resolved_len, const uint8_t *pending, size_t pending_len, const uint8_t *recent, size_t recent_len,
+                                   uint8_t *out, size_t out_len, uint64_t *carried, size_t carried_len);
+
+/*
+ * Reads a history file, of version 3. The memory may hold anything before; refused, it is left as it is.
+ *
+ *   IZR_DONE
+ *   IZR_DAMAGED          a count slice is too short, the state has fewer than four words, or carried has none
+ *   IZR_BAD_MAGIC        the first eight bytes are there, and are not a history's
+ *   IZR_UNKNOWN_VERSION  carried[0] is the version: 1 for a history of the base board
+ *   IZR_CORRUPT          the bytes are no history file, or the width in it is not IZR_WIDE_WIDTH
+ *   IZR_NO_ROOM          a table of the file has more records, repeats counted, than there is room for
+ */
+uint32_t izr_wide_from_history_bytes(const uint8_t *bytes, size_t bytes_len, double *confirmed, size_t confirmed_len, double *resolved,
+                                     size_t resolved_len, uint8_t *pending, size_t pending_len, uint8_t *recent, size_t recent_len,
+                                     uint64_t *state, size_t state_len, uint64_t *carried, size_t carried_len);
 
 #ifdef __cplusplus
 }

@@ -1,15 +1,11 @@
 -- The calls over words, said of the calls below them: what does not fit is Damaged, and else a call's answer, state and memory are what its caller sees.
 -- Assumes nothing.
 use mathlib.Core.Path.{_≡_, refl, sym, ap, ap₂, _∙_}
-use mathlib.Core.Bool.{Bool, true, false, _&&_}
+use mathlib.Core.Bool.{Bool, true, false}
 use mathlib.Core.Logic.{⊎-elim}
 use mathlib.Core.List.{List, [], _∷_}
 use Prim.Native.Nat.{ℕ}
-use native.Mathlib.Nat.{pos-of-ne-zero}
 use native.Mathlib.Omega.{arith}
-use borrow.Author.Tests.{le-leb, lt-leb}
-use lib.Dec.{leb}
-use lib.ListN.{length}
 use types.Run.{OneOf}
 use denote.Enum.Declared.{tagOf}
 use Rattle.kinds.specs.declared.State.{State}
@@ -22,22 +18,6 @@ use Rattle.boundary.specs.Words.{put-state, put-if-done}
 use Rattle.boundary.specs.Calls.{Seen, seen, if-fit, told, carry, begun, rate-carried, length-carried}
 
 -- ---- what fits
-
-pub not-first : (a b : Bool) → a ≡ false → a && b ≡ false
-not-first a b p = rw p
-
-pub not-second : (a b : Bool) → b ≡ false → a && b ≡ false
-not-second true b p = p
-not-second false b p = refl
-
-pub both : (a b : Bool) → a ≡ true → b ≡ true → a && b ≡ true
-both a b p q = rw (p, q)
-
-pub no-word : (cs : List ℕ) → length cs ≡ 0 → leb 1 (length cs) ≡ false
-no-word cs e = lt-leb 1 (length cs) (omega arith)
-
-pub a-word : (cs : List ℕ) → (length cs ≡ 0 → ⊥) → leb 1 (length cs) ≡ true
-a-word cs n = le-leb 1 (length cs) (pos-of-ne-zero n)
 
 module _ {L : Type 0} (fit : Bool) (ws cs : List ℕ) (l : L) (s : Seen L) where
   pub unfit : fit ≡ false → seen 1 ws cs l ≡ if-fit fit ws cs l s
@@ -57,10 +37,10 @@ module _ {L : Type 0} (ws : List ℕ) (a : Answer) (s : State) (l : L) (o : Outc
   tells n vs p q = ap₂ (λ (m : ℕ) (us : List ℕ). seen m us [] l) p q ∙ ap (told ws) e
 
   -- a call that begins a run
-  pub begins : (cs : List ℕ) (n : ℕ) (vs ds : List ℕ) → n ≡ a .number → vs ≡ put-if-done (a .number) s ws → ds ≡ carry (a .carries) cs → seen n vs ds l ≡ begun ws cs o
+  pub begins : (cs : List ℕ) (n : ℕ) (vs ds : List ℕ) → n ≡ a .number → vs ≡ put-if-done n s ws → ds ≡ carry (a .carries) cs → seen n vs ds l ≡ begun ws cs o
   unfolding begun
   begins cs n vs ds p q r =
-      ap₂ (λ (m : ℕ) (us : List ℕ). seen m us ds l) p q ∙ ap (λ (bs : List ℕ). seen (a .number) (put-if-done (a .number) s ws) bs l) r ∙ ap (begun ws cs) e
+      ap₂ (λ (us bs : List ℕ). seen n us bs l) q r ∙ ap (λ (m : ℕ). seen m (put-if-done m s ws) (carry (a .carries) cs) l) p ∙ ap (begun ws cs) e
 
 -- only an unknown version is carried by a reading
 pub no-version : (a : ReadAnswer) → OneOf (0 ∷ 1 ∷ 2 ∷ 4 ∷ 5 ∷ []) (tagOf the-type a) → read-answer a .carries ≡ []

@@ -1,15 +1,17 @@
--- The calls of the C ABI: for each the answer's number and all that is lent, afterwards. They are the calls of rules and format over a state in words. Assumes nothing.
+-- The calls of the C ABI, on the board that a horizon names: for each the answer's number and all that is lent, afterwards. They are the calls of rules and
+-- format over a state in words, and the history has the board's own version. Assumes nothing.
 use Prim.Native.Nat.{ℕ}
 use mathlib.Core.Bool.{Bool, _&&_, cond}
 use mathlib.Core.List.{List, [], _∷_}
 use lib.Dec.{leb, eqb}
 use lib.ListN.{length, getD, set}
 use lib.Ieee.{Float}
+use Rattle.kinds.specs.declared.Horizon.{Horizon}
 use Rattle.kinds.specs.Answers.{Answer}
-use Rattle.rules.specs.Board.{base}
+use Rattle.rules.specs.Board.{board-of}
 use Rattle.rules.specs.Memory.{Lent}
 use Rattle.rules.specs.Calls.{Outcome, start-call, enter-call, leave-call, block-call, estimate-call}
-use Rattle.format.specs.File.{version-1}
+use Rattle.format.specs.File.{version-of}
 use Rattle.format.specs.Calls.{write-call, read-call}
 use Rattle.boundary.specs.Words.{holds-state, state-in, put-state, put-if-done}
 
@@ -46,30 +48,30 @@ unfoldable pub begun : {L : Type 0} → List ℕ → List ℕ → Outcome L → 
 begun ws cs o = seen (o .answer .number) (put-if-done (o .answer .number) (o .state) ws) (carry (o .answer .carries) cs) (o .lent)
 
 -- Fresh start.
-unfoldable pub izr-new : List ℕ → Lent → Seen Lent
-izr-new ws l = if-fit (leb 4 (length ws)) ws [] l (begun ws [] (start-call base l))
+unfoldable pub izr-new : Horizon → List ℕ → Lent → Seen Lent
+izr-new on ws l = if-fit (leb 4 (length ws)) ws [] l (begun ws [] (start-call (board-of on) l))
 
 -- Enter.
-unfoldable pub izr-tx-entered : List ℕ → List ℕ → List ℕ → ℕ → ℕ → Seen (List ℕ)
-izr-tx-entered ws xs id rate h =
-    if-fit (holds-state ws && eqb (length id) 32) ws [] xs (told ws (enter-call base (state-in ws) xs id (record { 0 = rate }) (record { 0 = h })))
+unfoldable pub izr-tx-entered : Horizon → List ℕ → List ℕ → List ℕ → ℕ → ℕ → Seen (List ℕ)
+izr-tx-entered on ws xs id rate h =
+    if-fit (holds-state ws && eqb (length id) 32) ws [] xs (told ws (enter-call (board-of on) (state-in ws) xs id (record { 0 = rate }) (record { 0 = h })))
 
 -- Leave.
-unfoldable pub izr-tx-left : List ℕ → List ℕ → List ℕ → Seen (List ℕ)
-izr-tx-left ws xs id = if-fit (holds-state ws && eqb (length id) 32) ws [] xs (told ws (leave-call base (state-in ws) xs id))
+unfoldable pub izr-tx-left : Horizon → List ℕ → List ℕ → List ℕ → Seen (List ℕ)
+izr-tx-left on ws xs id = if-fit (holds-state ws && eqb (length id) 32) ws [] xs (told ws (leave-call (board-of on) (state-in ws) xs id))
 
 -- Block.
-unfoldable pub izr-block-connected : List ℕ → Lent → List ℕ → ℕ → Seen Lent
-izr-block-connected ws l ids h = if-fit (holds-state ws) ws [] l (told ws (block-call base (state-in ws) l ids (record { 0 = h })))
+unfoldable pub izr-block-connected : Horizon → List ℕ → Lent → List ℕ → ℕ → Seen Lent
+izr-block-connected on ws l ids h = if-fit (holds-state ws) ws [] l (told ws (block-call (board-of on) (state-in ws) l ids (record { 0 = h })))
 
 -- an estimate that is done carries its rate, or 0 for none
 unfoldable pub rate-carried : Answer → List ℕ
 rate-carried a = cond (eqb (a .number) 0) (getD (a .carries) 0 0 ∷ []) []
 
 -- Estimate. It changes nothing but the carried word.
-unfoldable pub izr-estimate : List ℕ → List Float → List Float → ℕ → List ℕ → Seen Unit
-izr-estimate ws confirmed resolved target cs =
-    let a = estimate-call base (state-in ws) confirmed resolved (record { 0 = target }) in
+unfoldable pub izr-estimate : Horizon → List ℕ → List Float → List Float → ℕ → List ℕ → Seen Unit
+izr-estimate on ws confirmed resolved target cs =
+    let a = estimate-call (board-of on) (state-in ws) confirmed resolved (record { 0 = target }) in
     if-fit (holds-state ws && leb 1 (length cs)) ws cs tt (seen (a .number) ws (carry (rate-carried a) cs) tt)
 
 -- a write that is done carries the length, and one that is refused what its answer carries
@@ -77,11 +79,11 @@ unfoldable pub length-carried : Answer → ℕ → List ℕ
 length-carried a len = cond (eqb (a .number) 0) (len ∷ []) (a .carries)
 
 -- Write. It changes nothing but the output and the carried word.
-unfoldable pub izr-to-history-bytes : List ℕ → Lent → List ℕ → List ℕ → Seen (List ℕ)
-izr-to-history-bytes ws l out cs =
-    let o = write-call version-1 base (state-in ws) l out in
+unfoldable pub izr-to-history-bytes : Horizon → List ℕ → Lent → List ℕ → List ℕ → Seen (List ℕ)
+izr-to-history-bytes on ws l out cs =
+    let o = write-call (version-of on) (board-of on) (state-in ws) l out in
     if-fit (holds-state ws && leb 1 (length cs)) ws cs out (seen (o .answer .number) ws (carry (length-carried (o .answer) (o .lent .len)) cs) (o .lent .bytes))
 
 -- Read.
-unfoldable pub izr-from-history-bytes : List ℕ → Lent → List ℕ → List ℕ → Seen Lent
-izr-from-history-bytes file l ws cs = if-fit (leb 4 (length ws) && leb 1 (length cs)) ws cs l (begun ws cs (read-call version-1 base l file))
+unfoldable pub izr-from-history-bytes : Horizon → List ℕ → Lent → List ℕ → List ℕ → Seen Lent
+izr-from-history-bytes on file l ws cs = if-fit (leb 4 (length ws) && leb 1 (length cs)) ws cs l (begun ws cs (read-call (version-of on) (board-of on) l file))

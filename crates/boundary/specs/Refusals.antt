@@ -6,10 +6,11 @@ use Prim.Native.Nat.{ℕ}
 use lib.Dec.{eqb}
 use lib.ListN.{length, take, drop, set}
 use lib.Ieee.{Float}
+use Rattle.kinds.specs.declared.Horizon.{Horizon}
 use Rattle.rules.specs.Bytes.{le}
-use Rattle.rules.specs.Board.{base}
+use Rattle.rules.specs.Board.{board-of}
 use Rattle.rules.specs.Memory.{Lent, view}
-use Rattle.format.specs.File.{version-1, history-of}
+use Rattle.format.specs.File.{version-of, history-of}
 use Rattle.boundary.specs.Words.{state-in}
 use Rattle.boundary.specs.Calls.{Seen, seen, izr-new, izr-tx-entered, izr-tx-left, izr-block-connected, izr-estimate, izr-to-history-bytes, izr-from-history-bytes}
 
@@ -26,17 +27,17 @@ unfoldable pub version-in : List ℕ → ℕ
 version-in file = le (take 4 (drop 8 file))
 
 -- how many bytes the history of what the memory holds has
-unfoldable pub needed : List ℕ → Lent → ℕ
-needed ws l = length (history-of version-1 (view base (state-in ws) l))
+unfoldable pub needed : Horizon → List ℕ → Lent → ℕ
+needed on ws l = length (history-of (version-of on) (view (board-of on) (state-in ws) l))
 
--- For each call that is given a state, or puts one: refused, it leaves all as it was; a reading writes carried[0] on 9, and a write on 12.
-pub record RefusalPromise : Type 0 where
-  pub new : (ws : List ℕ) (l : Lent) → Leaves ws [] l (izr-new ws l)
-  pub tx-entered : (ws xs id : List ℕ) (rate h : ℕ) → Leaves ws [] xs (izr-tx-entered ws xs id rate h)
-  pub tx-left : (ws xs id : List ℕ) → Leaves ws [] xs (izr-tx-left ws xs id)
-  pub block-connected : (ws : List ℕ) (l : Lent) (ids : List ℕ) (h : ℕ) → Leaves ws [] l (izr-block-connected ws l ids h)
-  pub estimate : (ws : List ℕ) (confirmed resolved : List Float) (target : ℕ) (cs : List ℕ) → Leaves ws cs tt (izr-estimate ws confirmed resolved target cs)
+-- For each call that is given a state, or puts one, on either board: refused, it leaves all as it was; a reading writes carried[0] on 9, and a write on 12.
+pub record RefusalPromise (on : Horizon) : Type 0 where
+  pub new : (ws : List ℕ) (l : Lent) → Leaves ws [] l (izr-new on ws l)
+  pub tx-entered : (ws xs id : List ℕ) (rate h : ℕ) → Leaves ws [] xs (izr-tx-entered on ws xs id rate h)
+  pub tx-left : (ws xs id : List ℕ) → Leaves ws [] xs (izr-tx-left on ws xs id)
+  pub block-connected : (ws : List ℕ) (l : Lent) (ids : List ℕ) (h : ℕ) → Leaves ws [] l (izr-block-connected on ws l ids h)
+  pub estimate : (ws : List ℕ) (confirmed resolved : List Float) (target : ℕ) (cs : List ℕ) → Leaves ws cs tt (izr-estimate on ws confirmed resolved target cs)
   pub to-history-bytes : (ws : List ℕ) (l : Lent) (out cs : List ℕ)
-      → let s = izr-to-history-bytes ws l out cs in Leaves ws (but-on 12 (needed ws l) (s .number) cs) out s
+      → let s = izr-to-history-bytes on ws l out cs in Leaves ws (but-on 12 (needed on ws l) (s .number) cs) out s
   pub from-history-bytes : (file : List ℕ) (l : Lent) (ws cs : List ℕ)
-      → let s = izr-from-history-bytes file l ws cs in Leaves ws (but-on 9 (version-in file) (s .number) cs) l s
+      → let s = izr-from-history-bytes on file l ws cs in Leaves ws (but-on 9 (version-in file) (s .number) cs) l s
