@@ -7,6 +7,7 @@ use Prim.Native.Nat.{ℕ}
 use lib.ListN.{getD}
 use types.Run.{OneOf}
 use denote.Enum.Declared.{tagOf}
+use Rattle.kinds.specs.declared.Horizon.{Horizon}
 use Rattle.kinds.specs.declared.State.{State}
 use Rattle.rules.specs.Memory.{Lent}
 use Rattle.lines.specs.declared.page.Operation.{Operation}
@@ -19,6 +20,7 @@ abbrev operations : List Operation
 operations =
     Operation.Unfit
     ∷ Operation.PassedOver
+    ∷ Operation.Board
     ∷ Operation.Lend
     ∷ Operation.Byte
     ∷ Operation.Count
@@ -45,6 +47,7 @@ at k = getD operations k Operation.Unfit
 placed : (of : Operation) → of ≡ at (tagOf operation.the-type of)
 placed Operation.Unfit = refl
 placed Operation.PassedOver = refl
+placed Operation.Board = refl
 placed Operation.Lend = refl
 placed Operation.Byte = refl
 placed Operation.Count = refl
@@ -62,26 +65,26 @@ placed Operation.Read = refl
 placed Operation.Again = refl
 placed Operation.Sum = refl
 
-module _ (of : Operation) (line : Line) (s : State) (text : List ℕ) (l : Lent) where
+module _ (on : Horizon) (of : Operation) (line : Line) (s : State) (text : List ℕ) (l : Lent) where
   -- the row of an operation
-  pub by : (o : Operation) (d : Did Lent) → of ≡ o → d ≡ operation-does o line s text l → d ≡ operation-does of line s text l
-  by o d e p = p ∙ sym (ap (λ (x : Operation). operation-does x line s text l) e)
+  pub by : (o : Operation) (d : Did Lent) → of ≡ o → d ≡ operation-does on o line s text l → d ≡ operation-does on of line s text l
+  by o d e p = p ∙ sym (ap (λ (x : Operation). operation-does on x line s text l) e)
 
   -- the same, by the place of the operation
-  row : (k : ℕ) → tagOf operation.the-type of ≡ k → operation-does of line s text l ≡ operation-does (at k) line s text l
-  row k e = ap (λ (o : Operation). operation-does o line s text l) (placed of ∙ ap at e)
+  row : (k : ℕ) → tagOf operation.the-type of ≡ k → operation-does on of line s text l ≡ operation-does on (at k) line s text l
+  row k e = ap (λ (o : Operation). operation-does on o line s text l) (placed of ∙ ap at e)
 
   -- `block` and `blockraw`
-  pub blocks : OneOf (9 ∷ 10 ∷ []) (tagOf operation.the-type of) → operation-does of line s text l ≡ block-does line s text l
+  pub blocks : OneOf (10 ∷ 11 ∷ []) (tagOf operation.the-type of) → operation-does on of line s text l ≡ block-does on line s text l
   unfolding operation-does
-  blocks h = ⊎-elim (row 9) (row 10) h
+  blocks h = ⊎-elim (row 10) (row 11) h
 
   -- `read` and `again`
-  pub reads : OneOf (15 ∷ 16 ∷ []) (tagOf operation.the-type of) → operation-does of line s text l ≡ read-does s text l
+  pub reads : OneOf (16 ∷ 17 ∷ []) (tagOf operation.the-type of) → operation-does on of line s text l ≡ read-does on s text l
   unfolding operation-does
-  reads h = ⊎-elim (row 15) (row 16) h
+  reads h = ⊎-elim (row 16) (row 17) h
 
-  -- the lines that only ask
-  pub asks : OneOf (1 ∷ 11 ∷ 12 ∷ 13 ∷ 14 ∷ 17 ∷ []) (tagOf operation.the-type of) → operation-does of line s text l ≡ nothing true s l
+  -- the lines that do nothing here
+  pub asks : OneOf (1 ∷ 2 ∷ 12 ∷ 13 ∷ 14 ∷ 15 ∷ 18 ∷ []) (tagOf operation.the-type of) → operation-does on of line s text l ≡ nothing true s l
   unfolding operation-does
-  asks h = ⊎-elim (row 1) (⊎-elim (row 11) (⊎-elim (row 12) (⊎-elim (row 13) (⊎-elim (row 14) (row 17))))) h
+  asks h = ⊎-elim (row 1) (⊎-elim (row 2) (⊎-elim (row 12) (⊎-elim (row 13) (⊎-elim (row 14) (⊎-elim (row 15) (row 18)))))) h

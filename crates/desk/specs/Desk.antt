@@ -1,18 +1,19 @@
--- What a line of a script does to the lent memory and to the state, and what it is answered with. Assumes nothing.
+-- What a line of a script does to a board's lent memory and to its state, and what it is answered with. Assumes nothing.
 use Prim.Native.Nat.{ℕ, _-_, _%_}
 use mathlib.Core.Bool.{Bool, true, false, cond}
 use mathlib.Core.List.{List, [], _∷_, _++_}
 use lib.Dec.{eqb, leb}
 use lib.ListN.{length, drop, replicate}
 use Rattle.kinds.specs.declared.Height.{Height}
+use Rattle.kinds.specs.declared.Horizon.{Horizon}
 use Rattle.kinds.specs.declared.Last.{Last}
 use Rattle.kinds.specs.declared.State.{State}
 use Rattle.kinds.specs.Answers.{Answer}
-use Rattle.rules.specs.Board.{base}
+use Rattle.rules.specs.Board.{board-of}
 use Rattle.rules.specs.Ids.{Id}
 use Rattle.rules.specs.Memory.{Lent, lent}
 use Rattle.rules.specs.Calls.{Outcome, start-call, enter-call, leave-call, block-call}
-use Rattle.format.specs.File.{version-1}
+use Rattle.format.specs.File.{version-of}
 use Rattle.format.specs.Calls.{read-call}
 use Rattle.lines.specs.declared.page.Operation.{Operation}
 use Rattle.lines.specs.declared.lines.Line.{Line}
@@ -70,16 +71,16 @@ unfoldable pub told : {L : Type 0} → Outcome L → Did L
 told o = did (numbered (o .answer .number) (o .state)) (o .lent)
 
 -- `enter ID RATE HEIGHT`
-unfoldable pub enter-does : Line → State → List ℕ → List ℕ → Did (List ℕ)
-enter-does line s text pending = told (enter-call base s pending (id-of text) (record { 0 = line .b }) (height-of (line .c)))
+unfoldable pub enter-does : Horizon → Line → State → List ℕ → List ℕ → Did (List ℕ)
+enter-does on line s text pending = told (enter-call (board-of on) s pending (id-of text) (record { 0 = line .b }) (height-of (line .c)))
 
 -- `leave ID`
-unfoldable pub leave-does : State → List ℕ → List ℕ → Did (List ℕ)
-leave-does s text pending = told (leave-call base s pending (id-of text))
+unfoldable pub leave-does : Horizon → State → List ℕ → List ℕ → Did (List ℕ)
+leave-does on s text pending = told (leave-call (board-of on) s pending (id-of text))
 
 -- `block HEIGHT ID ID ..` and `blockraw HEIGHT HEX`
-unfoldable pub block-does : Line → State → List ℕ → Lent → Did Lent
-block-does line s ids l = told (block-call base s l ids (height-of (line .a)))
+unfoldable pub block-does : Horizon → Line → State → List ℕ → Lent → Did Lent
+block-does on line s ids l = told (block-call (board-of on) s l ids (height-of (line .a)))
 
 -- a refused `start` or `read` leaves the state that the run had
 abbrev pub kept : ℕ → State → State → State
@@ -90,8 +91,8 @@ unfoldable pub begun : State → Reply → Outcome Lent → Did Lent
 begun s reply o = did (done true reply (kept (o .answer .number) (o .state) s)) (o .lent)
 
 -- `start`
-unfoldable pub start-does : State → Lent → Did Lent
-start-does s l = let o = start-call base l in begun s (Reply.Number (o .answer .number)) o
+unfoldable pub start-does : Horizon → State → Lent → Did Lent
+start-does on s l = let o = start-call (board-of on) l in begun s (Reply.Number (o .answer .number)) o
 
 -- the number of an answer, and the value that it carries, if there is one
 unfoldable pub carried : ℕ → List ℕ → Reply
@@ -102,9 +103,9 @@ carried n (v ∷ vs) = Reply.Carrying n v
 abbrev pub reply-of : Answer → Reply
 reply-of a = carried (a .number) (a .carries)
 
--- `read HEX` and `again`
-unfoldable pub read-does : State → List ℕ → Lent → Did Lent
-read-does s history l = let o = read-call version-1 base l history in begun s (reply-of (o .answer)) o
+-- `read HEX` and `again`: a board takes its own version alone
+unfoldable pub read-does : Horizon → State → List ℕ → Lent → Did Lent
+read-does on s history l = let o = read-call (version-of on) (board-of on) l history in begun s (reply-of (o .answer)) o
 
 -- ---- all lines
 
@@ -124,27 +125,29 @@ count-does line s l = let t = count-lays line (l .confirmed) (l .resolved) in di
 abbrev pub nothing : Bool → State → Lent → Did Lent
 nothing fits s l = did (silent fits s) l
 
--- the page, row by row; a line that only asks does nothing. How much is lent by a `lend`, and that the state is then the empty one, the run sees to
-unfoldable pub operation-does : Operation → Line → State → List ℕ → Lent → Did Lent
-operation-does Operation.Unfit line s text l = nothing false s l
-operation-does Operation.PassedOver line s text l = nothing true s l
-operation-does Operation.Lend line s text l = did (silent true s) (cleared l)
-operation-does Operation.Byte line s text l = byte-does line s text l
-operation-does Operation.Count line s text l = count-does line s l
-operation-does Operation.State line s text l = did (silent true (state-of line)) l
-operation-does Operation.Start line s text l = start-does s l
-operation-does Operation.Enter line s text l = in-pending l (enter-does line s text (l .pending))
-operation-does Operation.Leave line s text l = in-pending l (leave-does s text (l .pending))
-operation-does Operation.Block line s text l = block-does line s text l
-operation-does Operation.BlockRaw line s text l = block-does line s text l
-operation-does Operation.Estimate line s text l = nothing true s l
-operation-does Operation.Estimates line s text l = nothing true s l
-operation-does Operation.Bucket line s text l = nothing true s l
-operation-does Operation.Write line s text l = nothing true s l
-operation-does Operation.Read line s text l = read-does s text l
-operation-does Operation.Again line s text l = read-does s text l
-operation-does Operation.Sum line s text l = nothing true s l
+-- the page, row by row; a line that only asks does nothing. How much is lent by a `lend`, that the state is then the empty one, and which board comes after a
+-- `board`, the run sees to
+unfoldable pub operation-does : Horizon → Operation → Line → State → List ℕ → Lent → Did Lent
+operation-does on Operation.Unfit line s text l = nothing false s l
+operation-does on Operation.PassedOver line s text l = nothing true s l
+operation-does on Operation.Board line s text l = nothing true s l
+operation-does on Operation.Lend line s text l = did (silent true s) (cleared l)
+operation-does on Operation.Byte line s text l = byte-does line s text l
+operation-does on Operation.Count line s text l = count-does line s l
+operation-does on Operation.State line s text l = did (silent true (state-of line)) l
+operation-does on Operation.Start line s text l = start-does on s l
+operation-does on Operation.Enter line s text l = in-pending l (enter-does on line s text (l .pending))
+operation-does on Operation.Leave line s text l = in-pending l (leave-does on s text (l .pending))
+operation-does on Operation.Block line s text l = block-does on line s text l
+operation-does on Operation.BlockRaw line s text l = block-does on line s text l
+operation-does on Operation.Estimate line s text l = nothing true s l
+operation-does on Operation.Estimates line s text l = nothing true s l
+operation-does on Operation.Bucket line s text l = nothing true s l
+operation-does on Operation.Write line s text l = nothing true s l
+operation-does on Operation.Read line s text l = read-does on s text l
+operation-does on Operation.Again line s text l = read-does on s text l
+operation-does on Operation.Sum line s text l = nothing true s l
 
--- what a line with these bytes does
-abbrev pub line-does : Line → State → List ℕ → Lent → Did Lent
-line-does line s text l = operation-does (line .operation) line s text l
+-- what a line with these bytes does on a board
+abbrev pub line-does : Horizon → Line → State → List ℕ → Lent → Did Lent
+line-does on line s text l = operation-does on (line .operation) line s text l

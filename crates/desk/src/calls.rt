@@ -1,8 +1,11 @@
 // The state that a line names, and the calls that change the estimator: each gives its answer, and the state after it.
 use crate::Done;
 use crate::Reply;
+use history::from_history_bytes;
+use history::own_version;
 use kinds::FeeRate;
 use kinds::Height;
+use kinds::Horizon;
 use kinds::ID_SIZE;
 use kinds::Last;
 use kinds::ReadAnswer;
@@ -67,21 +70,21 @@ fn numbered(number: u32, state: State) -> Done
 }
 
 // enter
-pub(crate) fn enter(line: Line, state: State, text: &[u8], pending: &mut [u8]) -> Done
-    ensures { λ r. ⌜ did r (now (pending .exit)) ≡ enter-does line state (now (text .entry)) (now (pending .entry)) ⌝ }
+pub(crate) fn enter(line: Line, state: State, text: &[u8], pending: &mut [u8], on: Horizon) -> Done
+    ensures { λ r. ⌜ did r (now (pending .exit)) ≡ enter-does on line state (now (text .entry)) (now (pending .entry)) ⌝ }
 {
     let id = id_in(text);
-    let r = estimator::tx_entered(state, pending, &id, FeeRate(line.b), height(line.c));
+    let r = entries::tx_entered(state, pending, &id, FeeRate(line.b), height(line.c), on);
     let answer = r.answer;
     numbered(answer.number(), r.state)
 }
 
 // leave
-pub(crate) fn leave(state: State, text: &[u8], pending: &mut [u8]) -> Done
-    ensures { λ r. ⌜ did r (now (pending .exit)) ≡ leave-does state (now (text .entry)) (now (pending .entry)) ⌝ }
+pub(crate) fn leave(state: State, text: &[u8], pending: &mut [u8], on: Horizon) -> Done
+    ensures { λ r. ⌜ did r (now (pending .exit)) ≡ leave-does on state (now (text .entry)) (now (pending .entry)) ⌝ }
 {
     let id = id_in(text);
-    let r = estimator::tx_left(state, pending, &id);
+    let r = entries::tx_left(state, pending, &id, on);
     let answer = r.answer;
     numbered(answer.number(), r.state)
 }
@@ -103,12 +106,13 @@ pub(crate) fn start(
     recent: &mut [u8],
     confirmed: &mut [f64],
     resolved: &mut [f64],
+    on: Horizon,
 ) -> Done
     ensures { λ r. ⌜
         did r (after confirmed resolved pending recent)
-        ≡ start-does state (before confirmed resolved pending recent) ⌝ }
+        ≡ start-does on state (before confirmed resolved pending recent) ⌝ }
 {
-    let r = estimator::new(confirmed, resolved, pending, recent);
+    let r = starts::new(confirmed, resolved, pending, recent, on);
     let answer = r.answer;
     let number = answer.number();
     numbered(number, kept(number, r.state, state))
@@ -123,13 +127,14 @@ pub(crate) fn block(
     recent: &mut [u8],
     confirmed: &mut [f64],
     resolved: &mut [f64],
+    on: Horizon,
 ) -> Done
     ensures { λ r. ⌜
         did r (after confirmed resolved pending recent)
-        ≡ block-does line state (now (ids .entry)) (before confirmed resolved pending recent) ⌝ }
+        ≡ block-does on line state (now (ids .entry)) (before confirmed resolved pending recent) ⌝ }
 {
     let height = height(line.a);
-    let r = estimator::block_connected(state, confirmed, resolved, pending, recent, ids, height);
+    let r = blocks::block_connected(state, confirmed, resolved, pending, recent, ids, height, on);
     let answer = r.answer;
     numbered(answer.number(), r.state)
 }
@@ -153,12 +158,14 @@ pub(crate) fn read(
     recent: &mut [u8],
     confirmed: &mut [f64],
     resolved: &mut [f64],
+    on: Horizon,
 ) -> Done
     ensures { λ r. ⌜
         did r (after confirmed resolved pending recent)
-        ≡ read-does state (now (history .entry)) (before confirmed resolved pending recent) ⌝ }
+        ≡ read-does on state (now (history .entry)) (before confirmed resolved pending recent) ⌝ }
 {
-    let r = estimator::from_history_bytes(history, confirmed, resolved, pending, recent);
+    let version = own_version(on);
+    let r = from_history_bytes(history, confirmed, resolved, pending, recent, version, on);
     let answer = r.answer;
     let after = kept(answer.number(), r.state, state);
     let reply = reply_of(answer);

@@ -1,4 +1,4 @@
-// What a line of a script does to the lent memory and to the state of a run, and what it is answered with. The page of scripts is the definition; what a
+// What a line of a script does to a board's lent memory and to its state, and what it is answered with. The page of scripts is the definition; what a
 // line says comes from `lines`, and the replies are printed by the program `replay`.
 // `lays`: what is done to the lent memory itself. `calls`: the estimator's calls.
 mod calls;
@@ -10,6 +10,7 @@ use calls::leave;
 use calls::read;
 use calls::start;
 use calls::state_in;
+use kinds::Horizon;
 use kinds::State;
 use lays::clear;
 use lays::lay_bytes;
@@ -46,7 +47,7 @@ fn silent(fits: bool, state: State) -> Done
     }
 }
 
-// What a line with these bytes does to the lent memory and the state. A line that only asks does nothing here.
+// What a line with these bytes does to a board's lent memory and state. A line that only asks does nothing here.
 pub fn change(
     line: Line,
     state: State,
@@ -55,10 +56,11 @@ pub fn change(
     recent: &mut [u8],
     confirmed: &mut [f64],
     resolved: &mut [f64],
+    on: Horizon,
 ) -> Done
     ensures { λ r. ⌜
         did r (after confirmed resolved pending recent)
-        ≡ line-does line state (now (text .entry)) (before confirmed resolved pending recent) ⌝ }
+        ≡ line-does on line state (now (text .entry)) (before confirmed resolved pending recent) ⌝ }
 {
     let of = line.operation;
     match of {
@@ -70,14 +72,14 @@ pub fn change(
         Operation::Byte => silent(lay_bytes(line, text, pending, recent), state),
         Operation::Count => silent(lay_count(line, confirmed, resolved), state),
         Operation::State => silent(true, state_in(line)),
-        Operation::Start => start(state, pending, recent, confirmed, resolved),
-        Operation::Enter => enter(line, state, text, pending),
-        Operation::Leave => leave(state, text, pending),
+        Operation::Start => start(state, pending, recent, confirmed, resolved, on),
+        Operation::Enter => enter(line, state, text, pending, on),
+        Operation::Leave => leave(state, text, pending, on),
         Operation::Block | Operation::BlockRaw => {
-            block(line, state, text, pending, recent, confirmed, resolved)
+            block(line, state, text, pending, recent, confirmed, resolved, on)
         }
         Operation::Read | Operation::Again => {
-            read(state, text, pending, recent, confirmed, resolved)
+            read(state, text, pending, recent, confirmed, resolved, on)
         }
         _ => silent(true, state),
     }

@@ -7,6 +7,7 @@ use mathlib.Core.Path.{_≡_, refl}
 use mathlib.Core.Bool.{Bool, true, false}
 use mathlib.Core.List.{List, [], _∷_, map}
 use Rattle.bytes.specs.Bytes.{indexOf}
+use Rattle.kinds.specs.declared.Horizon.{Horizon}
 use Rattle.rules.specs.Ids.{same}
 use Rattle.rules.specs.Lists.{every}
 use Rattle.script.specs.Words.{word-from}
@@ -22,19 +23,28 @@ unfoldable pub codes : String → List ℕ
 codes end = []
 codes (c then s) = code c ∷ codes s
 
--- a line, whether a `lend` was there before it, and what it asks for
+-- a line for a board, whether the board's `lend` was there before it, and what it asks for
 pub record Example : Type 0 where
+  pub on : Horizon
   pub begun : Bool
   pub line : String
   pub asks : Line
 
--- a line after a `lend`
+-- a line for the narrow board after its `lend`
 abbrev after-lend : String → Line → Example
-after-lend line asks = record { begun = true; line = line; asks = asks }
+after-lend line asks = record { on = Horizon.Base; begun = true; line = line; asks = asks }
 
--- a line before the first one
+-- a line before it
 abbrev before-lend : String → Line → Example
-before-lend line asks = record { begun = false; line = line; asks = asks }
+before-lend line asks = record { on = Horizon.Base; begun = false; line = line; asks = asks }
+
+-- a line for the wide board after its `lend`
+abbrev wide-after : String → Line → Example
+wide-after line asks = record { on = Horizon.Wide; begun = true; line = line; asks = asks }
+
+-- a line before it
+abbrev wide-before : String → Line → Example
+wide-before line asks = record { on = Horizon.Wide; begun = false; line = line; asks = asks }
 
 -- an operation and its values
 abbrev asks : Operation → ℕ → ℕ → ℕ → ℕ → Line
@@ -65,6 +75,33 @@ lends =
     ∷ before-lend "#" passed
     ∷ after-lend "# lend 1 2 3 4" passed
     ∷ after-lend " # lend" unfit
+    ∷ []
+
+-- `board`, which also stands before a `lend`, and the wide board's own bounds
+unfoldable pub boards : List Example
+boards =
+    before-lend "board narrow" (asks Operation.Board 0 0 0 0)
+    ∷ before-lend "board wide" (asks Operation.Board 1 0 0 0)
+    ∷ after-lend "board wide" (asks Operation.Board 1 0 0 0)
+    ∷ wide-before "board narrow" (asks Operation.Board 0 0 0 0)
+    ∷ wide-after "board wide" (asks Operation.Board 1 0 0 0)
+    ∷ before-lend "board" unfit
+    ∷ after-lend "board base" unfit
+    ∷ after-lend "board 1" unfit
+    ∷ after-lend "board wide " unfit
+    ∷ after-lend "board wide narrow" unfit
+    ∷ after-lend "boards" unfit
+    ∷ wide-before "lend 44100 72100 3600 3600" (asks Operation.Lend 44100 72100 3600 3600)
+    ∷ wide-before "lend 44101 72100 3600 3600" unfit
+    ∷ wide-before "lend 44100 72101 3600 3600" unfit
+    ∷ wide-after "lend 44100 72100 3601 3600" unfit
+    ∷ wide-after "lend 44100 72100 3600 3601" unfit
+    ∷ wide-before "estimate 1" unfit
+    ∷ wide-before "bucket 1000" unfit
+    ∷ wide-before "" passed
+    ∷ wide-before "# estimate 1" passed
+    ∷ wide-after "estimate 1" (asks Operation.Estimate 1 0 0 0)
+    ∷ wide-after "bucket 1000" (asks Operation.Bucket 1000 0 0 0)
     ∷ []
 
 -- lines of no field, and first words that are none
@@ -144,16 +181,16 @@ lists =
 
 -- what the definition gives for each
 abbrev given : List Example → List Line
-given es = map (λ e. line-of (e .begun) (codes (e .line))) es
+given es = map (λ e. line-of (e .on) (e .begun) (codes (e .line))) es
 
 -- what it is to give
 abbrev expected : List Example → List Line
 expected es = map (λ e. e .asks) es
 
 -- all of them hold
-pub all-hold : (given lends ≡ expected lends) × (given bares ≡ expected bares) × (given numbers ≡ expected numbers) × (given damages ≡ expected damages) × (given lists ≡ expected lists)
-unfolding indexOf same every word-from digit value-after number-after number-of is-hex is-id pattern-of found operation-of allowed last-of bits-of one-of any-of ids-from take-word take-ids take-field with-fields passed-over line-of codes lends bares numbers damages lists
-all-hold = (refl, refl, refl, refl, refl)
+pub all-hold : (given lends ≡ expected lends) × (given boards ≡ expected boards) × (given bares ≡ expected bares) × (given numbers ≡ expected numbers) × (given damages ≡ expected damages) × (given lists ≡ expected lists)
+unfolding indexOf same every word-from digit value-after number-after number-of is-hex is-id pattern-of found operation-of allowed last-of bits-of one-of any-of ids-from take-word take-ids take-field with-fields passed-over line-of codes lends boards bares numbers damages lists
+all-hold = (refl, refl, refl, refl, refl, refl)
 
 -- so many ids and no more
 pub ids-counted : (ids-from 0 (codes "aa") 3 ≡ true) × (ids-from 1 (codes "aa") 0 ≡ true) × (ids-from 1 (codes "aa bb") 0 ≡ false) × (ids-from 2 (codes "aa bb") 0 ≡ true)

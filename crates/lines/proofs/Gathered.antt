@@ -7,6 +7,7 @@ use mathlib.Core.Bool.{true}
 use mathlib.Core.List.{List, [], _∷_, _++_, map}
 use lib.ListN.{replicate}
 use Rattle.bytes.specs.Bytes.{indexOf}
+use Rattle.kinds.specs.declared.Horizon.{Horizon}
 use Rattle.rules.specs.Ids.{same}
 use Rattle.rules.specs.Lists.{every}
 use Rattle.print.specs.Page.{Page, page, write}
@@ -54,10 +55,11 @@ examples =
     ∷ leaves "again" 1 (old 1) 0
     ∷ leaves "estimate 1" 3 (old 3) 0
     ∷ leaves "leave 0af" 3 (old 3) 0
+    ∷ leaves "board wide" 3 (old 3) 0
     ∷ []
 
 -- all of them hold
-pub all-hold : map (λ e. gathered (line-of true (codes (e .line))) (codes (e .line)) (e .kept) (e .buffer)) examples ≡ map (λ e. e .holds) examples
+pub all-hold : map (λ e. gathered (line-of Horizon.Base true (codes (e .line))) (codes (e .line)) (e .kept) (e .buffer)) examples ≡ map (λ e. e .holds) examples
 unfolding indexOf same every write word-from digit value-after number-after number-of is-hex hex-bytes hex-into is-id id-bytes found operation-of allowed one-of any-of ids-from take-word take-ids take-field with-fields passed-over line-of decoded listed gathered codes examples
 all-hold = refl
 

@@ -10,6 +10,7 @@ use types.Run.{OneOf, miss}
 use denote.Enum.Declared.{tagOf}
 use lib.Dec.{eqb, ltb}
 use lib.ListN.{length, getD}
+use Rattle.kinds.specs.declared.Horizon.{Horizon}
 use Rattle.script.specs.Words.{word-from}
 use Rattle.script.specs.declared.numbers.Number.{Number}
 use Rattle.script.specs.declared.words.Word.{Word}
@@ -25,7 +26,7 @@ use Rattle.lines.proofs.page.Field as field
 
 -- the fields but for none and for ids, by their places in the enum
 abbrev words : List ℕ
-words = 1 ∷ 2 ∷ 3 ∷ 4 ∷ 5 ∷ 6 ∷ 7 ∷ []
+words = 1 ∷ 2 ∷ 3 ∷ 4 ∷ 5 ∷ 6 ∷ 7 ∷ 8 ∷ []
 
 module _ (line : List ℕ) (t : Taken) where
   -- each of them is one word
@@ -37,9 +38,10 @@ module _ (line : List ℕ) (t : Taken) where
   worded Field.Pattern h = refl
   worded Field.Table h = refl
   worded Field.Kind h = refl
+  worded Field.Board h = refl
   worded (Field.Bytes most) h = refl
   worded Field.Any h = refl
-  worded Field.Ids h = absurd (miss words 8 tt h)
+  worded Field.Ids h = absurd (miss words 9 tt h)
 
   -- what a word says is what is taken for its field
   pub by-word : (f : Field) (w : Word) (n : Number) → OneOf words (tagOf field.the-type f) → w ≡ word-from line (t .at) → n ≡ value-of f (w .from) (text-of line w)
@@ -50,11 +52,11 @@ module _ (line : List ℕ) (t : Taken) where
 -- ---- four fields
 
 -- with-fields, once its four fields are taken
-pub taken : (line : List ℕ) (of : Operation) (at : ℕ) (f : Fields) (a b c d : Taken) → f ≡ fields-of of
+pub taken : (on : Horizon) (line : List ℕ) (of : Operation) (at : ℕ) (f : Fields) (a b c d : Taken) → f ≡ fields-of on of
     → a ≡ take-field line (before-fields at) (f .0) → b ≡ take-field line a (f .1) → c ≡ take-field line b (f .2) → d ≡ take-field line c (f .3)
-    → with-fields line of at ≡ cond (ltb (length line) (d .at) && d .fits) (record { operation = of; a = a .value; b = b .value; c = c .value; d = d .value }) (bare Operation.Unfit)
+    → with-fields on line of at ≡ cond (ltb (length line) (d .at) && d .fits) (record { operation = of; a = a .value; b = b .value; c = c .value; d = d .value }) (bare Operation.Unfit)
 unfolding with-fields
-taken line of at f a b c d ef ea eb ec ed = rw (← ef, ← ea, ← eb, ← ec, ← ed)
+taken on line of at f a b c d ef ea eb ec ed = rw (← ef, ← ea, ← eb, ← ec, ← ed)
 
 -- ---- the whole line
 
@@ -70,21 +72,21 @@ unfolding passed-over
 something [] h = absurd (h refl)
 something (x ∷ l) h = refl
 
-module _ (begun : Bool) (line : List ℕ) where
+module _ (on : Horizon) (begun : Bool) (line : List ℕ) where
   -- an empty line
-  pub empty : length line ≡ 0 → bare Operation.PassedOver ≡ line-of begun line
+  pub empty : length line ≡ 0 → bare Operation.PassedOver ≡ line-of on begun line
   unfolding line-of
   empty h = rw (nothing line h)
 
   -- a line that begins with `#`
-  pub comment : (length line ≡ 0 → ⊥) → getD line 0 0 ≡ 35 → bare Operation.PassedOver ≡ line-of begun line
+  pub comment : (length line ≡ 0 → ⊥) → getD line 0 0 ≡ 35 → bare Operation.PassedOver ≡ line-of on begun line
   unfolding line-of
   comment h e = rw (something line h ∙ eq-eqb _ _ e)
 
   -- any other line
   pub operation : (length line ≡ 0 → ⊥) → (getD line 0 0 ≡ 35 → ⊥) → (w : Word) (of : Operation) → w ≡ word-from line 0 → of ≡ allowed begun (text-of line w)
-      → with-fields line of (w .to + 1) ≡ line-of begun line
+      → with-fields on line of (w .to + 1) ≡ line-of on begun line
   unfolding line-of
   operation h n w of e k =
       rw (something line h ∙ ne-eqb _ _ n)
-      (ap (λ (o : Operation). with-fields line o (w .to + 1)) k ∙ ap (λ (x : Word). with-fields line (allowed begun (text-of line x)) (x .to + 1)) e)
+      (ap (λ (o : Operation). with-fields on line o (w .to + 1)) k ∙ ap (λ (x : Word). with-fields on line (allowed begun (text-of line x)) (x .to + 1)) e)

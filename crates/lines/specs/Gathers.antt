@@ -40,6 +40,7 @@ source-for Operation.Read line = Source.Digits (line .a)
 source-for Operation.BlockRaw line = Source.Digits (line .b)
 source-for Operation.Block line = Source.Ids (line .b)
 source-for Operation.Again line = Source.Kept
+source-for Operation.Board line = Source.Nowhere
 source-for Operation.Lend line = Source.Nowhere
 source-for Operation.Count line = Source.Nowhere
 source-for Operation.State line = Source.Nowhere

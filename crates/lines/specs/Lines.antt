@@ -4,13 +4,14 @@ use mathlib.Core.Bool.{Bool, true, false, _&&_, _||_, cond}
 use mathlib.Core.List.{List, [], _∷_}
 use lib.Dec.{ltb, eqb}
 use lib.ListN.{length, take, drop}
+use Rattle.kinds.specs.declared.Horizon.{Horizon}
 use Rattle.rules.specs.Ids.{same}
 use Rattle.script.specs.Words.{word-from}
 use Rattle.script.specs.Digits.{number-of}
 use Rattle.script.specs.Hex.{some-bytes, is-id, pattern-of}
 use Rattle.script.specs.declared.numbers.Number.{Number}
 use Rattle.script.specs.declared.words.Word.{Word}
-use Rattle.lines.specs.Words.{Text, pending, confirmed, resolved, nan, dash}
+use Rattle.lines.specs.Words.{Text, narrow, wide, pending, confirmed, resolved, nan, dash}
 use Rattle.lines.specs.Page.{allowed, fields-of, most-history, most-short, most-ids}
 use Rattle.lines.specs.declared.page.Operation.{Operation}
 use Rattle.lines.specs.declared.page.Field.{Field}
@@ -51,6 +52,7 @@ value-of Field.Last from w = last-of w
 value-of Field.Pattern from w = bits-of w
 value-of Field.Table from w = one-of pending confirmed w
 value-of Field.Kind from w = one-of confirmed resolved w
+value-of Field.Board from w = one-of narrow wide w
 value-of (Field.Bytes most) from w = placed (some-bytes most w) from
 value-of Field.Any from w = placed (any-of w) from
 value-of Field.Ids from w = Number.Bad
@@ -93,6 +95,7 @@ take-field line t Field.Last = take-word line t Field.Last
 take-field line t Field.Pattern = take-word line t Field.Pattern
 take-field line t Field.Table = take-word line t Field.Table
 take-field line t Field.Kind = take-word line t Field.Kind
+take-field line t Field.Board = take-word line t Field.Board
 take-field line t (Field.Bytes most) = take-word line t (Field.Bytes most)
 take-field line t Field.Any = take-word line t Field.Any
 
@@ -106,10 +109,10 @@ before-fields at = record { at = at; fits = true; value = 0 }
 abbrev pub bare : Operation → Line
 bare of = record { operation = of; a = 0; b = 0; c = 0; d = 0 }
 
--- an operation with its fields from `at` on: they fit, and no word is left
-unfoldable pub with-fields : List ℕ → Operation → ℕ → Line
-with-fields line of at =
-    let f = fields-of of in
+-- an operation of a board with its fields from `at` on: they fit, and no word is left
+unfoldable pub with-fields : Horizon → List ℕ → Operation → ℕ → Line
+with-fields on line of at =
+    let f = fields-of on of in
     let a = take-field line (before-fields at) (f .0) in
     let b = take-field line a (f .1) in
     let c = take-field line b (f .2) in
@@ -121,12 +124,12 @@ unfoldable pub passed-over : List ℕ → Bool
 passed-over [] = true
 passed-over (x ∷ xs) = eqb x 35
 
--- what a line without its LF asks for; `begun` where a `lend` was there
-unfoldable pub line-of : Bool → List ℕ → Line
-line-of begun line =
+-- what a line without its LF asks for on a board; `begun` where its `lend` was there
+unfoldable pub line-of : Horizon → Bool → List ℕ → Line
+line-of on begun line =
     let w = word-from line 0 in
-    cond (passed-over line) (bare Operation.PassedOver) (with-fields line (allowed begun (text-of line w)) (w .to + 1))
+    cond (passed-over line) (bare Operation.PassedOver) (with-fields on line (allowed begun (text-of line w)) (w .to + 1))
 
 -- the same of a line that may lack its LF: without it the line does not fit
-unfoldable pub asked : Bool → Bool → List ℕ → Line
-asked ended begun line = cond ended (line-of begun line) (bare Operation.Unfit)
+unfoldable pub asked : Horizon → Bool → Bool → List ℕ → Line
+asked on ended begun line = cond ended (line-of on begun line) (bare Operation.Unfit)

@@ -8,6 +8,10 @@ Text = List ℕ
 
 -- ---- the first words of lines
 
+-- `board`
+abbrev pub board : Text
+board = 98 ∷ 111 ∷ 97 ∷ 114 ∷ 100 ∷ []
+
 -- `lend`
 abbrev pub lend : Text
 lend = 108 ∷ 101 ∷ 110 ∷ 100 ∷ []
@@ -73,6 +77,14 @@ abbrev pub sum : Text
 sum = 115 ∷ 117 ∷ 109 ∷ []
 
 -- ---- words of fields
+
+-- `narrow`
+abbrev pub narrow : Text
+narrow = 110 ∷ 97 ∷ 114 ∷ 114 ∷ 111 ∷ 119 ∷ []
+
+-- `wide`
+abbrev pub wide : Text
+wide = 119 ∷ 105 ∷ 100 ∷ 101 ∷ []
 
 -- `pending`
 abbrev pub pending : Text

@@ -74,6 +74,7 @@ fn source_of(line: Line) -> Source
         Operation::BlockRaw => Source::Digits(line.b as usize),
         Operation::Block => Source::Ids(line.b as usize),
         Operation::Again => Source::Kept,
+        Operation::Board => Source::Nowhere,
         Operation::Lend => Source::Nowhere,
         Operation::Count => Source::Nowhere,
         Operation::State => Source::Nowhere,

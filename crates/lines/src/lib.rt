@@ -11,6 +11,8 @@ pub use limits::MOST_HISTORY;
 pub use limits::MOST_PENDING;
 pub use limits::MOST_RECENT;
 pub use limits::MOST_SCRIPT;
+pub use limits::MOST_WIDE_PENDING;
+pub use limits::MOST_WIDE_RECENT;
 pub use lines::Line;
 pub use lines::asked;
 pub use page::Operation;

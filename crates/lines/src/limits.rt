@@ -3,11 +3,15 @@
 // The most bytes of a script.
 pub const MOST_SCRIPT: usize = 2097152;
 
-// The most bytes that are lent for pending records.
+// The most bytes that are lent for pending records: of the narrow board, and of the wide one.
 pub const MOST_PENDING: usize = 440100;
 
-// The most bytes that are lent for confirmed records.
+pub const MOST_WIDE_PENDING: usize = 44100;
+
+// The most bytes that are lent for confirmed records, in the same order.
 pub const MOST_RECENT: usize = 720100;
+
+pub const MOST_WIDE_RECENT: usize = 72100;
 
 // The most counts that are lent of each kind.
 pub const MOST_COUNTS: usize = 3600;

@@ -7,6 +7,7 @@ use crate::page::Operation;
 use crate::page::allowed;
 use crate::page::fields_of;
 use crate::page::is;
+use kinds::Horizon;
 use kinds::ID_SIZE;
 use script::hex::is_hex;
 use script::hex::pattern_in;
@@ -117,6 +118,7 @@ fn value_of(word: &[u8], field: Field, from: usize) -> Number
         Field::Pattern => bits_in(word),
         Field::Table => one_of(word, b"pending", b"confirmed"),
         Field::Kind => one_of(word, b"confirmed", b"resolved"),
+        Field::Board => one_of(word, b"narrow", b"wide"),
         Field::Bytes(most) => placed(holds(word, most), from),
         Field::Any => placed(any_in(word), from),
         Field::Ids => Number::Bad,
@@ -204,10 +206,10 @@ fn bare(operation: Operation) -> Line
 }
 
 // The operation of a line with its fields from `at` on, if they fit and no word follows.
-fn with_fields(line: &[u8], operation: Operation, at: usize) -> Line
-    ensures { λ r. ⌜ r ≡ with-fields (now (line .entry)) operation at ⌝ }
+fn with_fields(line: &[u8], operation: Operation, at: usize, on: Horizon) -> Line
+    ensures { λ r. ⌜ r ≡ with-fields on (now (line .entry)) operation at ⌝ }
 {
-    let fields = fields_of(operation);
+    let fields = fields_of(operation, on);
     let begin = Taken {
         at,
         fits: true,
@@ -236,9 +238,9 @@ fn with_fields(line: &[u8], operation: Operation, at: usize) -> Line
     bare(Operation::Unfit)
 }
 
-// What a line without its LF asks for; `begun` where a `lend` was there.
-fn line_in(line: &[u8], begun: bool) -> Line
-    ensures { λ r. ⌜ r ≡ line-of begun (now (line .entry)) ⌝ }
+// What a line without its LF asks for; `begun` where the board's `lend` was there.
+fn line_in(line: &[u8], begun: bool, on: Horizon) -> Line
+    ensures { λ r. ⌜ r ≡ line-of on begun (now (line .entry)) ⌝ }
 {
     if line.len() == 0 {
         return bare(Operation::PassedOver);
@@ -250,15 +252,15 @@ fn line_in(line: &[u8], begun: bool) -> Line
     let from = w.from;
     let to = w.to;
     let of = allowed(&line[from..to], begun);
-    with_fields(line, of, to + 1)
+    with_fields(line, of, to + 1, on)
 }
 
-// What a line asks for: without its LF (`ended` false) it does not fit.
-pub fn asked(text: &[u8], ended: bool, begun: bool) -> Line
-    ensures { λ r. ⌜ r ≡ asked ended begun (now (text .entry)) ⌝ }
+// What a line asks for on a board: without its LF (`ended` false) it does not fit.
+pub fn asked(text: &[u8], ended: bool, begun: bool, on: Horizon) -> Line
+    ensures { λ r. ⌜ r ≡ asked on ended begun (now (text .entry)) ⌝ }
 {
     if ended {
-        return line_in(text, begun);
+        return line_in(text, begun, on);
     }
     bare(Operation::Unfit)
 }

@@ -4,12 +4,15 @@ use crate::limits::MOST_HISTORY;
 use crate::limits::MOST_PENDING;
 use crate::limits::MOST_RECENT;
 use crate::limits::MOST_SHORT;
+use crate::limits::MOST_WIDE_PENDING;
+use crate::limits::MOST_WIDE_RECENT;
 use check::same;
+use kinds::Horizon;
 use kinds::ID_SIZE;
 ghost use mathlib.Core.Path.{_≡_};
 ghost use mathlib.Core.Bool.{cond};
 ghost use Rattle.rules.specs.Ids.{same};
-ghost use Rattle.lines.specs.Page.{found, calls, questions, operation-of, allowed, fields-of};
+ghost use Rattle.lines.specs.Page.{found, openings, calls, questions, operation-of, allowed, most-pending, most-recent, fields-of};
 
 // An operation, by its first word.
 pub enum Operation {
@@ -17,6 +20,7 @@ pub enum Operation {
     Unfit,
     // An empty line, or a comment.
     PassedOver,
+    Board,
     Lend,
     Byte,
     Count,
@@ -49,6 +53,8 @@ pub(crate) enum Field {
     Table,
     // `confirmed` or `resolved`.
     Kind,
+    // `narrow` or `wide`.
+    Board,
     // Bytes in digits, one at least and at most so many.
     Bytes(usize),
     // Bytes in digits, or `-` for none.
@@ -101,7 +107,7 @@ fn call(word: &[u8]) -> Operation
     named(word, b"start", Operation::Start, of)
 }
 
-// The operation that the first word of a line names: the same, with those on lent memory.
+// The same, with those on lent memory.
 fn operation_of(word: &[u8]) -> Operation
     ensures { λ r. ⌜ r ≡ operation-of (now (word .entry)) ⌝ }
 {
@@ -109,27 +115,55 @@ fn operation_of(word: &[u8]) -> Operation
     let of = named(word, b"sum", Operation::Sum, of);
     let of = named(word, b"state", Operation::State, of);
     let of = named(word, b"count", Operation::Count, of);
-    let of = named(word, b"byte", Operation::Byte, of);
+    named(word, b"byte", Operation::Byte, of)
+}
+
+// The operation of a word, of those that may stand before a board is lent, and else another.
+fn opening(word: &[u8], other: Operation) -> Operation
+    ensures { λ r. ⌜ r ≡ found openings (now (word .entry)) other ⌝ }
+{
+    let of = named(word, b"board", Operation::Board, other);
     named(word, b"lend", Operation::Lend, of)
 }
 
-// The operation of a first word, if it may stand there: before the first `lend` no other does.
+// The operation of a first word, if it may stand there; `begun` where the board is lent.
 pub(crate) fn allowed(word: &[u8], begun: bool) -> Operation
     ensures { λ r. ⌜ r ≡ allowed begun (now (word .entry)) ⌝ }
 {
     if begun {
-        return operation_of(word);
+        return opening(word, operation_of(word));
     }
-    named(word, b"lend", Operation::Lend, Operation::Unfit)
+    opening(word, Operation::Unfit)
 }
 
-// The fields of each operation.
-pub(crate) fn fields_of(of: Operation) -> Fields
-    ensures { λ r. ⌜ r ≡ fields-of of ⌝ }
+// The most bytes that are lent for a board's pending records.
+fn most_pending(on: Horizon) -> u64
+    ensures { λ r. ⌜ r ≡ most-pending on ⌝ }
+{
+    match on {
+        Horizon::Base => MOST_PENDING as u64,
+        Horizon::Wide => MOST_WIDE_PENDING as u64,
+    }
+}
+
+// The most bytes that are lent for a board's confirmed records.
+fn most_recent(on: Horizon) -> u64
+    ensures { λ r. ⌜ r ≡ most-recent on ⌝ }
+{
+    match on {
+        Horizon::Base => MOST_RECENT as u64,
+        Horizon::Wide => MOST_WIDE_RECENT as u64,
+    }
+}
+
+// The fields of each operation on a board.
+pub(crate) fn fields_of(of: Operation, on: Horizon) -> Fields
+    ensures { λ r. ⌜ r ≡ fields-of on of ⌝ }
 {
     let none = Field::Nothing;
-    let pending = Field::Number(MOST_PENDING as u64);
-    let recent = Field::Number(MOST_RECENT as u64);
+    let pending = Field::Number(most_pending(on));
+    let recent = Field::Number(most_recent(on));
+    let place = Field::Number(MOST_RECENT as u64);
     let counts = Field::Number(MOST_COUNTS as u64);
     let history = Field::Number(MOST_HISTORY as u64);
     let short = Field::Number(MOST_SHORT);
@@ -137,8 +171,9 @@ pub(crate) fn fields_of(of: Operation) -> Fields
     let id = Field::Bytes(ID_SIZE);
     let some = Field::Bytes(MOST_HISTORY);
     match of {
+        Operation::Board => Fields(Field::Board, none, none, none),
         Operation::Lend => Fields(pending, recent, counts, counts),
-        Operation::Byte => Fields(Field::Table, recent, some, none),
+        Operation::Byte => Fields(Field::Table, place, some, none),
         Operation::Count => Fields(Field::Kind, counts, Field::Pattern, none),
         Operation::State => Fields(Field::Last, short, short, none),
         Operation::Enter => Fields(id, long, short, none),

@@ -10,29 +10,48 @@ use crate::says::say_sum;
 use crate::says::say_target;
 use crate::says::say_text;
 use crate::says::say_wrote;
+use boards::width_of;
 use desk::fill;
+use estimates::estimate;
+use history::own_version;
+use history::to_history_bytes;
 use kinds::Blocks;
 use kinds::Estimated;
 use kinds::FeeRate;
+use kinds::Horizon;
 use kinds::MAX_CONF_TARGET;
 use kinds::State;
 use kinds::WriteAnswer;
+use ladder::bucket_index_for_rate;
 use lines::Line;
 use lines::Operation;
 use print::put;
 use script::sums::sum_bytes;
 use script::sums::sum_doubles;
+ghost use mathlib.Core.Path.{_≡_};
+ghost use Prim.Native.Nat.{_*_, _≤_};
+ghost use Rattle.rules.specs.Board.{board-of};
 
-// The last target that `estimates` asks for.
-const LAST_TARGET: u32 = MAX_CONF_TARGET as u32;
+// How many columns a board has.
+const COLUMNS: u32 = MAX_CONF_TARGET as u32;
 
-// The words for all targets, a space after each but the last.
-fn say_targets(state: State, confirmed: &[f64], resolved: &[f64]) {
-    let mut t: u32 = 0;
-    while t < LAST_TARGET {
-        t += 1;
-        say_target(estimator::estimate(state, confirmed, resolved, Blocks(t)));
-        if t < LAST_TARGET {
+// The longest wait that a column is for.
+fn target_of(column: u32, on: Horizon) -> Blocks
+    requires { ⌜ column ≤ 25 ⌝ }
+    ensures { λ r. ⌜ r .0 ≡ board-of on .width * column ⌝ }
+{
+    let width = width_of(on);
+    Blocks(width.0 * column)
+}
+
+// The words for the targets of all columns, a space after each but the last.
+fn say_targets(state: State, confirmed: &[f64], resolved: &[f64], on: Horizon) {
+    let mut column: u32 = 0;
+    while column < COLUMNS {
+        column += 1;
+        let target = target_of(column, on);
+        say_target(estimate(state, confirmed, resolved, target, on));
+        if column < COLUMNS {
             say_text(b" ");
         }
     }
@@ -40,11 +59,11 @@ fn say_targets(state: State, confirmed: &[f64], resolved: &[f64]) {
 }
 
 // estimates
-fn estimates(state: State, confirmed: &[f64], resolved: &[f64]) {
-    let e = estimator::estimate(state, confirmed, resolved, Blocks(1));
+fn estimates(state: State, confirmed: &[f64], resolved: &[f64], on: Horizon) {
+    let e = estimate(state, confirmed, resolved, Blocks(1), on);
     match e {
         Estimated::Damaged => say_estimate(e),
-        _ => say_targets(state, confirmed, resolved),
+        _ => say_targets(state, confirmed, resolved, on),
     }
 }
 
@@ -73,9 +92,20 @@ fn write(
     buffer: &mut [u8],
     kept: &mut [u8],
     n: usize,
+    on: Horizon,
 ) -> usize {
     fill(buffer, 0xaa);
-    let w = estimator::to_history_bytes(state, confirmed, resolved, pending, recent, buffer);
+    let version = own_version(on);
+    let w = to_history_bytes(
+        state,
+        confirmed,
+        resolved,
+        pending,
+        recent,
+        buffer,
+        version,
+        on,
+    );
     let answer = w.answer;
     match answer {
         WriteAnswer::Done => {
@@ -105,15 +135,16 @@ pub(crate) fn ask(
     buffer: &mut [u8],
     kept: &mut [u8],
     n: usize,
+    on: Horizon,
 ) -> usize {
     let of = line.operation;
     match of {
-        Operation::Bucket => say_line(estimator::bucket_index_for_rate(FeeRate(line.a)) as u64),
+        Operation::Bucket => say_line(bucket_index_for_rate(FeeRate(line.a)) as u64),
         Operation::Estimate => {
             let target = Blocks((line.a % 4294967296) as u32);
-            say_estimate(estimator::estimate(state, confirmed, resolved, target));
+            say_estimate(estimate(state, confirmed, resolved, target, on));
         }
-        Operation::Estimates => estimates(state, confirmed, resolved),
+        Operation::Estimates => estimates(state, confirmed, resolved, on),
         Operation::Sum => sums(state, pending, recent, confirmed, resolved),
         Operation::Write => {
             let end = least(line.a as usize, buffer.len());
@@ -126,6 +157,7 @@ pub(crate) fn ask(
                 &mut buffer[0..end],
                 kept,
                 n,
+                on,
             );
         }
         _ => {}

@@ -8,6 +8,8 @@ use lines::MOST_HISTORY;
 use lines::MOST_PENDING;
 use lines::MOST_RECENT;
 use lines::MOST_SCRIPT;
+use lines::MOST_WIDE_PENDING;
+use lines::MOST_WIDE_RECENT;
 ghost use mathlib.Core.Path.{_≡_};
 ghost use lib.ListN.{length};
 
@@ -23,18 +25,18 @@ fn script_zeros() -> [u8; MOST_SCRIPT + 1]
     [0u8; MOST_SCRIPT + 1]
 }
 
-// Zeros for pending records.
-fn pending_zeros() -> [u8; MOST_PENDING]
-    ensures { λ r. ⌜ 440100 ≡ length r ⌝ }
+// Zeros for the pending records of both boards.
+fn pending_zeros() -> [u8; MOST_PENDING + MOST_WIDE_PENDING]
+    ensures { λ r. ⌜ 484200 ≡ length r ⌝ }
 {
-    [0u8; MOST_PENDING]
+    [0u8; MOST_PENDING + MOST_WIDE_PENDING]
 }
 
-// Zeros for confirmed records.
-fn recent_zeros() -> [u8; MOST_RECENT]
-    ensures { λ r. ⌜ 720100 ≡ length r ⌝ }
+// Zeros for their confirmed records.
+fn recent_zeros() -> [u8; MOST_RECENT + MOST_WIDE_RECENT]
+    ensures { λ r. ⌜ 792200 ≡ length r ⌝ }
 {
-    [0u8; MOST_RECENT]
+    [0u8; MOST_RECENT + MOST_WIDE_RECENT]
 }
 
 // Zeros for a history.
@@ -54,8 +56,8 @@ fn main() {
     }
     let mut pending = pending_zeros();
     let mut recent = recent_zeros();
-    let mut confirmed = [0.0f64; MOST_COUNTS];
-    let mut resolved = [0.0f64; MOST_COUNTS];
+    let mut confirmed = [0.0f64; 2 * MOST_COUNTS];
+    let mut resolved = [0.0f64; 2 * MOST_COUNTS];
     let mut buffer = history_zeros();
     let mut kept = history_zeros();
     run::run(

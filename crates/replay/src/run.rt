@@ -1,22 +1,25 @@
 // A script, line by line.
 use crate::asks::ask;
+use crate::parts::begins;
+use crate::parts::ends;
 use crate::parts::front;
-use crate::parts::least;
 use crate::says::say_end;
 use crate::says::say_reply;
 use desk::Done;
 use desk::change;
+use kinds::Horizon;
 use kinds::State;
 use lines::Line;
+use lines::MOST_COUNTS;
+use lines::MOST_PENDING;
+use lines::MOST_RECENT;
 use lines::Operation;
 use lines::asked;
 use lines::gather;
 
-// What a run keeps between two lines.
-struct Progress {
-    // Every line so far fits.
-    fits: bool,
-    // The first `lend` was there.
+// What a run keeps of a board.
+struct Loan {
+    // Its `lend` was there.
     begun: bool,
     // How much of each table, in bytes, and of each list of counts is lent.
     pending: usize,
@@ -24,94 +27,193 @@ struct Progress {
     confirmed: usize,
     resolved: usize,
     state: State,
-    // The length of the history that the last accepted `write` wrote.
+}
+
+// What a run keeps between two lines.
+struct Progress {
+    // Every line so far fits.
+    fits: bool,
+    // The board that the lines are for, what it has, and what the other one has.
+    on: Horizon,
+    own: Loan,
+    other: Loan,
+    // The length of the history that the last accepted `write` wrote, on either board.
     kept: usize,
 }
 
-// The beginning: nothing is lent.
+// What a line leaves: whether it fits, its board's state, and how many bytes are kept.
+struct Left {
+    fits: bool,
+    state: State,
+    kept: usize,
+}
+
+// The beginning: the narrow board, and nothing is lent to either.
 fn fresh() -> Progress {
-    Progress {
-        fits: true,
+    let nothing = Loan {
         begun: false,
         pending: 0,
         recent: 0,
         confirmed: 0,
         resolved: 0,
         state: State::empty(),
+    };
+    Progress {
+        fits: true,
+        on: Horizon::Base,
+        own: nothing,
+        other: nothing,
         kept: 0,
     }
 }
 
-// Says what a line is answered with, and gives what it leaves in the run: after a `lend` that much memory, and the empty state. (What was lent before it is
-// zero then, and nothing beyond that was ever anything else.)
-fn after(r: Progress, line: Line, done: Done, kept: usize) -> Progress {
+// board: the lines that follow are for the board that the line names.
+fn turned(r: Progress, line: Line) -> Progress {
+    let on = if line.a == 0 {
+        Horizon::Base
+    } else {
+        Horizon::Wide
+    };
+    let was = r.on;
+    let own = r.own;
+    let other = r.other;
+    let stays = match was {
+        Horizon::Base => line.a == 0,
+        Horizon::Wide => line.a != 0,
+    };
+    if stays {
+        return r;
+    }
+    Progress {
+        fits: r.fits,
+        on,
+        own: other,
+        other: own,
+        kept: r.kept,
+    }
+}
+
+// The run after a line: after a `lend` that much memory, and the empty state. (What was lent before it is zero then, and nothing beyond that was ever
+// anything else.)
+fn after(r: Progress, line: Line, left: Left) -> Progress {
     let of = line.operation;
-    let state = done.state;
-    let reply = done.reply;
-    say_reply(reply);
+    let on = r.on;
+    let own = r.own;
+    let other = r.other;
+    let state = left.state;
     match of {
+        Operation::Board => turned(r, line),
         Operation::Lend => Progress {
             fits: true,
-            begun: true,
-            pending: line.a as usize,
-            recent: line.b as usize,
-            confirmed: line.c as usize,
-            resolved: line.d as usize,
-            state: State::empty(),
-            kept,
+            on,
+            own: Loan {
+                begun: true,
+                pending: line.a as usize,
+                recent: line.b as usize,
+                confirmed: line.c as usize,
+                resolved: line.d as usize,
+                state: State::empty(),
+            },
+            other,
+            kept: left.kept,
         },
         _ => Progress {
-            fits: done.fits,
-            begun: r.begun,
-            pending: r.pending,
-            recent: r.recent,
-            confirmed: r.confirmed,
-            resolved: r.resolved,
-            state,
-            kept,
+            fits: left.fits,
+            on,
+            own: Loan {
+                begun: own.begun,
+                pending: own.pending,
+                recent: own.recent,
+                confirmed: own.confirmed,
+                resolved: own.resolved,
+                state,
+            },
+            other,
+            kept: left.kept,
         },
     }
 }
 
-// One line, over as much memory as is lent; `ended` where its LF is there. What it changes is done first, then what it asks for is told.
-fn turn(
-    r: Progress,
+// Says what a line is answered with, and gives what it leaves.
+fn told(done: Done, kept: usize) -> Left {
+    let reply = done.reply;
+    let state = done.state;
+    say_reply(reply);
+    Left {
+        fits: done.fits,
+        state,
+        kept,
+    }
+}
+
+// One line, over what its board is lent, where n bytes are kept. What it changes is done first, then what it asks for is told.
+fn act(
+    line: Line,
+    state: State,
     text: &[u8],
-    ended: bool,
     pending: &mut [u8],
     recent: &mut [u8],
     confirmed: &mut [f64],
     resolved: &mut [f64],
     buffer: &mut [u8],
     kept: &mut [u8],
-) -> Progress {
-    let line = asked(text, ended, r.begun);
-    let n = gather(line, text, front(kept, r.kept), buffer);
-    let p = least(r.pending, pending.len());
-    let q = least(r.recent, recent.len());
-    let a = least(r.confirmed, confirmed.len());
-    let b = least(r.resolved, resolved.len());
-    let done = change(
-        line,
-        r.state,
-        front(buffer, n),
-        &mut pending[0..p],
-        &mut recent[0..q],
-        &mut confirmed[0..a],
-        &mut resolved[0..b],
-    );
+    n: usize,
+    on: Horizon,
+) -> Left {
+    let m = gather(line, text, front(kept, n), buffer);
+    let bytes = front(buffer, m);
+    let done = change(line, state, bytes, pending, recent, confirmed, resolved, on);
     let left = ask(
         line,
-        r.state,
-        &pending[0..p],
-        &recent[0..q],
-        &confirmed[0..a],
-        &resolved[0..b],
+        state,
+        pending,
+        recent,
+        confirmed,
+        resolved,
         buffer,
         kept,
-        r.kept,
+        n,
+        on,
     );
-    after(r, line, done, left)
+    told(done, left)
+}
+
+// The same, of as much memory as the board is lent.
+fn turn(
+    line: Line,
+    own: Loan,
+    text: &[u8],
+    pending: &mut [u8],
+    recent: &mut [u8],
+    confirmed: &mut [f64],
+    resolved: &mut [f64],
+    buffer: &mut [u8],
+    kept: &mut [u8],
+    n: usize,
+    on: Horizon,
+) -> Left {
+    let state = own.state;
+    let p0 = begins(MOST_PENDING, pending.len(), on);
+    let p1 = ends(p0, own.pending, pending.len());
+    let q0 = begins(MOST_RECENT, recent.len(), on);
+    let q1 = ends(q0, own.recent, recent.len());
+    let a0 = begins(MOST_COUNTS, confirmed.len(), on);
+    let a1 = ends(a0, own.confirmed, confirmed.len());
+    let b0 = begins(MOST_COUNTS, resolved.len(), on);
+    let b1 = ends(b0, own.resolved, resolved.len());
+    act(
+        line,
+        state,
+        text,
+        &mut pending[p0..p1],
+        &mut recent[q0..q1],
+        &mut confirmed[a0..a1],
+        &mut resolved[b0..b1],
+        buffer,
+        kept,
+        n,
+        on,
+    )
 }
 
 // A whole script; a line that does not fit, or has no LF, is told by its number.
@@ -133,17 +235,24 @@ pub(crate) fn run(
         }
         lines += 1;
         let end = bytes::scan::find(script, at, script.len(), b'\n');
-        r = turn(
-            r,
-            &script[at..end],
-            end < script.len(),
+        let on = r.on;
+        let own = r.own;
+        let text = &script[at..end];
+        let line = asked(text, end < script.len(), own.begun, on);
+        let left = turn(
+            line,
+            own,
+            text,
             pending,
             recent,
             confirmed,
             resolved,
             buffer,
             kept,
+            r.kept,
+            on,
         );
+        r = after(r, line, left);
         at = end + 1;
     }
     say_end(r.fits, lines);

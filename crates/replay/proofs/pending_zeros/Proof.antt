@@ -4,4 +4,4 @@ use Rattle.replay.proofs.pending_zeros.Statement.{statement}
 use Rattle.replay.proofs.pending_zeros.Tie as tie
 
 pub pending-zeros-spec : {M : Type 1} → statement M
-pending-zeros-spec = tie.close (tie.spec (λ c. long 440100))
+pending-zeros-spec = tie.close (tie.spec (λ c. long 484200))

@@ -4,4 +4,4 @@ use Rattle.replay.proofs.recent_zeros.Statement.{statement}
 use Rattle.replay.proofs.recent_zeros.Tie as tie
 
 pub recent-zeros-spec : {M : Type 1} → statement M
-recent-zeros-spec = tie.close (tie.spec (λ c. long 720100))
+recent-zeros-spec = tie.close (tie.spec (λ c. long 792200))

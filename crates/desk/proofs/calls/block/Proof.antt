@@ -3,7 +3,7 @@ use mathlib.Core.Path.{ap, _∙_}
 use borrow.Author.Needs.{needs}
 use denote.Ref.{now}
 use Rattle.kinds.specs.declared.Height.{Height}
-use Rattle.rules.specs.Board.{base}
+use Rattle.rules.specs.Board.{board-of}
 use Rattle.rules.specs.Memory.{lent}
 use Rattle.rules.specs.Calls.{block-call}
 use Rattle.desk.specs.Desk.{block-does}
@@ -17,7 +17,7 @@ returns c =
     let called = c .before .before .before .before .before .before .before .before .before .before in
     let h = called .before .before .before .before .before in
     let a = h .before .before .before .before .before .before .args in
-    let same = ap (λ (x : Height). block-call base (a .state) (lent (now (a .confirmed)) (now (a .resolved)) (now (a .pending)) (now (a .recent))) (now (a .ids)) x) (h .height .ensures) in
+    let same = ap (λ (x : Height). block-call (board-of (a .on)) (a .state) (lent (now (a .confirmed)) (now (a .resolved)) (now (a .pending)) (now (a .recent))) (now (a .ids)) x) (h .height .ensures) in
     tells _ _ _ _ _ _ (called .block-connected .ensures ∙ same) (c .before .number .ensures) (c .numbered .ensures)
 
 pub block-spec : {M : Type 1} → statement M

@@ -3,7 +3,7 @@ use mathlib.Core.Path.{ap₂, _∙_}
 use borrow.Author.Needs.{needs}
 use denote.Ref.{now}
 use Rattle.kinds.specs.declared.Height.{Height}
-use Rattle.rules.specs.Board.{base}
+use Rattle.rules.specs.Board.{board-of}
 use Rattle.rules.specs.Ids.{Id}
 use Rattle.rules.specs.Calls.{enter-call}
 use Rattle.desk.specs.Desk.{enter-does}
@@ -18,7 +18,7 @@ returns c =
     let h = called .before in
     let i = h .before .before .before in
     let a = i .before .before .before .args in
-    let same = ap₂ (λ (x : Id) (y : Height). enter-call base (a .state) (now (a .pending)) x (record { 0 = a .line .b }) y) (i .id-in .ensures) (h .height .ensures) in
+    let same = ap₂ (λ (x : Id) (y : Height). enter-call (board-of (a .on)) (a .state) (now (a .pending)) x (record { 0 = a .line .b }) y) (i .id-in .ensures) (h .height .ensures) in
     tells _ _ _ _ _ _ (called .tx-entered .ensures ∙ same) (c .before .number .ensures) (c .numbered .ensures)
 
 pub enter-spec : {M : Type 1} → statement M

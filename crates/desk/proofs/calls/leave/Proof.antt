@@ -2,7 +2,7 @@
 use mathlib.Core.Path.{ap, _∙_}
 use borrow.Author.Needs.{needs}
 use denote.Ref.{now}
-use Rattle.rules.specs.Board.{base}
+use Rattle.rules.specs.Board.{board-of}
 use Rattle.rules.specs.Ids.{Id}
 use Rattle.rules.specs.Calls.{leave-call}
 use Rattle.desk.specs.Desk.{leave-does}
@@ -16,7 +16,7 @@ returns c =
     let called = c .before .before .before .before in
     let i = called .before .before .before in
     let a = i .before .before .before .args in
-    let same = ap (λ (x : Id). leave-call base (a .state) (now (a .pending)) x) (i .id-in .ensures) in
+    let same = ap (λ (x : Id). leave-call (board-of (a .on)) (a .state) (now (a .pending)) x) (i .id-in .ensures) in
     tells _ _ _ _ _ _ (called .tx-left .ensures ∙ same) (c .before .number .ensures) (c .numbered .ensures)
 
 pub leave-spec : {M : Type 1} → statement M

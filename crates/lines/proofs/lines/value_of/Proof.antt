@@ -23,10 +23,13 @@ returns-5 : tie.Need-returns-5
 returns-5 c = rw (c .before .before .before .enum-told4 .given .1) (c .one-of2 .ensures)
 
 returns-6 : tie.Need-returns-6
-returns-6 c = rw (c .before .before .before .field2 .given .1) (c .placed .ensures ∙ ap (λ (t : Bool). placed t (c .before .before .before .before .before .before .args .from)) (c .before .holds .ensures))
+returns-6 c = rw (c .before .before .before .enum-told5 .given .1) (c .one-of3 .ensures)
 
 returns-7 : tie.Need-returns-7
-returns-7 c = rw (c .before .before .enum-told5 .given .1) (c .placed2 .ensures ∙ ap (λ (t : Bool). placed t (c .before .before .before .before .before .args .from)) (c .before .any-in .ensures))
+returns-7 c = rw (c .before .before .before .field2 .given .1) (c .placed .ensures ∙ ap (λ (t : Bool). placed t (c .before .before .before .before .before .before .args .from)) (c .before .holds .ensures))
+
+returns-8 : tie.Need-returns-8
+returns-8 c = rw (c .before .before .enum-told6 .given .1) (c .placed2 .ensures ∙ ap (λ (t : Bool). placed t (c .before .before .before .before .before .args .from)) (c .before .any-in .ensures))
 
 pub value-of-spec : {M : Type 1} → statement M
 value-of-spec =
@@ -36,6 +39,10 @@ value-of-spec =
     (λ c κs. search needs)
     (λ c. search needs)
     (λ c κs. search needs)
+    (λ c. search needs)
+    (λ c κs. search needs)
+    (λ c. search needs)
+    (λ c. search needs)
     (λ c. search needs)
     (λ c κs. search needs)
     (λ c. search needs)
@@ -61,5 +68,6 @@ value-of-spec =
     returns-5
     returns-6
     returns-7
+    returns-8
     (λ c. search needs)
     (λ c. search needs))

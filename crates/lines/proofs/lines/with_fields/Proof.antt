@@ -28,7 +28,7 @@ bytes-in c = now (start c .args .line)
 whole : (c : tie.After-take4) →
     let s = start c .args in
     let d = c .take4 .result in
-    with-fields (bytes-in c) (s .operation) (s .at)
+    with-fields (s .on) (bytes-in c) (s .operation) (s .at)
     ≡ cond (ltb (length (bytes-in c)) (d .at) && d .fits)
     (record { operation = s .operation; a = c .before .before .before .take .result .value; b = c .before .before .take2 .result .value; c = c .before .take3 .result .value; d = d .value })
     (bare Operation.Unfit)
@@ -38,7 +38,7 @@ whole c =
     let a = c .before .before .before .take in
     let b = c .before .before .take2 in
     let k = c .before .take3 in
-    taken (bytes-in c) (s .operation) (s .at) (f .result) (a .result) (b .result) (k .result) (c .take4 .result)
+    taken (s .on) (bytes-in c) (s .operation) (s .at) (f .result) (a .result) (b .result) (k .result) (c .take4 .result)
     (f .ensures) (a .ensures) (b .ensures) (k .ensures) (c .take4 .ensures)
 
 returns : tie.Need-returns

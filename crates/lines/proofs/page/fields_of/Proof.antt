@@ -8,6 +8,9 @@ pub fields-of-spec : {M : Type 1} → statement M
 fields-of-spec =
     tie.close
     (tie.spec
+    (λ c κs. search needs)
+    (λ c κs. search needs)
+    (λ c. search needs)
     (λ c. search needs)
     (λ c. search needs)
     (λ c. search needs)
@@ -27,7 +30,7 @@ fields-of-spec =
     (λ c. search needs)
     (λ c. search needs)
     (λ c. rw (c .enum-told .given .1))
-    (λ c. rw (c .enum-told2 .given .1))
+    (λ c. rw (c .enum-told2 .given .1, c .before .before .most-recent .ensures, c .before .before .before .most-pending .ensures))
     (λ c. rw (c .enum-told3 .given .1))
     (λ c. rw (c .enum-told4 .given .1))
     (λ c. rw (c .enum-told5 .given .1))
@@ -43,4 +46,5 @@ fields-of-spec =
     (λ c. rw (c .enum-told15 .given .1))
     (λ c. rw (c .enum-told16 .given .1))
     (λ c. rw (c .enum-told17 .given .1))
-    (λ c. rw (c .enum-told18 .given .1)))
+    (λ c. rw (c .enum-told18 .given .1))
+    (λ c. rw (c .enum-told19 .given .1)))

@@ -1,4 +1,4 @@
--- `replay::asks::say_targets` is safe and ends: there are as many turns as targets.
+-- `replay::asks::say_targets` is safe and ends: there are as many turns as columns.
 -- Assumes nothing.
 use Prim.Native.Nat.{_-_, _≤_}
 use native.Mathlib.Omega.{arith}
@@ -7,10 +7,10 @@ use Rattle.replay.proofs.asks.say_targets.Statement.{statement}
 use Rattle.replay.proofs.asks.say_targets.Tie as tie
 
 abbrev Inv-loop : tie.InvT-loop
-Inv-loop state confirmed resolved t₀ t5 t6 t = t ≤ 25
+Inv-loop state confirmed resolved on column₀ t7 t8 column = column ≤ 25
 
 abbrev μ-loop : tie.MeasureT-loop
-μ-loop state confirmed resolved t₀ t5 t6 t = 25 - t
+μ-loop state confirmed resolved on column₀ t7 t8 column = 25 - column
 
 pub say-targets-spec : {M : Type 1} → statement M
 say-targets-spec =
@@ -20,6 +20,7 @@ say-targets-spec =
     μ-loop
     (λ c. omega arith)
     (λ c. omega arith)
+    (λ c κs. omega arith)
     (λ c κs. search needs)
     (λ c κs. search needs)
     (λ c. search needs)

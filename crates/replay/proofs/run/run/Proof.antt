@@ -24,13 +24,16 @@ loop-holds : tie.Need-loop-holds Inv-loop μ-loop
 loop-holds c = ((omega arith, omega arith), (refl, (refl, (refl, (refl, (refl, refl))))))
 
 add-at : tie.Need-add-at Inv-loop μ-loop
-add-at c = let f = c .before .before .before .before .before .before .before .before .before .before .before .before .before .before .before .before .before .before .before .before in omega (arith, f .find .ensures, f .before .before .before .before .before .before .before .before .before .before .before .before .before .good)
+add-at c = let f = c .before .before .before .before .before .before .before .before .before .before .before .before .before .before .before .before .before .before .before .before .before .before .before in omega (arith, f .find .ensures, f .before .before .before .before .before .before .before .before .before .before .before .before .before .good)
+
+loop-less : tie.Need-loop-less Inv-loop μ-loop
+loop-less c = let f = c .before .before .before .before .before .before .before .before .before .before .before .before .before .before .before .before .before .before .before .before .before .before .before in omega (arith, f .find .ensures, f .before .before .before .loop-test .taken)
 
 loop-again : tie.Need-loop-again Inv-loop μ-loop
 loop-again c =
-    let t = c .before .before .before .before .before .before .before .before .before .before .before .before in
-    let l = t .before .before .before .before .before .before .before .before .before .before .before .before .loop .inv in
-    let e = t .before .before .before .before .before .before .before .before .find .ensures in
+    let t = c .before .before .before .before .before .before .before .before .before .before .before .before .before in
+    let l = t .before .before .before .before .before .before .before .before .before .before .before .before .before .before .loop .inv in
+    let e = t .before .before .before .before .before .before .before .before .before .before .find .ensures in
     let k = t .turn .kept .1 .1 .1 in (
       (omega (arith, l .0, e), omega (arith, e)),
       (
@@ -56,8 +59,10 @@ run-spec =
     (λ c. omega arith)
     (λ c. omega arith)
     (λ c κs. tt)
+    (λ c κs. tt)
+    (λ c κs. tt)
     add-at
-    (λ c. omega arith)
+    loop-less
     loop-again
     (λ c κs. tt)
     (λ c. omega arith)
