@@ -1,24 +1,27 @@
-"""Fixed scripts: every case of document 01's 'Two sides of each edge', its misreadings, and both sides of every refusal.
+"""Fixed scripts: every case of document 01's 'Two sides of each edge', its misreadings, and both sides of every refusal; over a board, so that the wide
+board has the same ones, with its width, its decay and its file.
 
 A case is a title and a text in which `LINE -> ANSWER` gives the answer that the document gives, `-> any` stands where it gives none, and `-> same` where
 memory laid by hand must give the same sum as the `sum` before it. A line without an arrow prints nothing."""
 
-from files import COUNTS, RATES, TARGETS, adler, bits, file, head, name, pending_record, place, recent_record, rows, u32
+from files import COUNTS, NARROW, RATES, TARGETS, WIDE, adler, bits, file, head, name, pending_record, place, recent_record, rows, u32
 
 LEND = "lend 440 360 3550 3550"
 FRESH = f"{LEND}\nstart -> 0"
 FRESH_FILE = "42 52 53 45 46 45 45 53 01 00 00 00 00 8E 00 00 00 E8 03"
+FRESH_FILES = {NARROW: FRESH_FILE, WIDE: "42 52 53 45 46 45 45 53 03 00 00 00 06 00 00 00 00 8E 00 00 00 E8 03"}
 TOP = 2**32 - 1
+MOST = {NARROW: ((10_000, 440_044), (20_002, 720_100)), WIDE: ((1_002, 44_100), (2_002, 72_100))}  # records that a script can lend for, and their bytes
 
 
 def joined(lines):
     return "\n".join(lines)
 
 
-def decayed(times):
+def decayed(board, times):
     count = 1.0
     for _ in range(times):
-        count *= 0.998
+        count *= board.decay
     return count
 
 
@@ -42,7 +45,7 @@ def laid(*parts, **more):
     return memory(*parts, **more) + "\nsum -> same"
 
 
-def rate_cases():
+def rate_cases(_board):
     edges = {0: 0, 999: 0, 1_049: 0, 1_050: 1, 1_101: 1, 1_102: 2, 962_804: 140, 962_805: 141, 2**64 - 1: 141}
     yield "rates", joined([LEND] + [f"bucket {rate} -> {bucket}" for rate, bucket in edges.items()])
     around = {}
@@ -51,8 +54,9 @@ def rate_cases():
     yield "every rate and its neighbours", joined([LEND] + [f"bucket {rate} -> {bucket}" for rate, bucket in around.items()])
 
 
-def worked_cases():
-    yield "fresh", joined([FRESH] + [f"estimate {target} -> none" for target in (0, 1, 25, 26)])
+def worked_cases(board):
+    life, once = board.life, board.decay
+    yield "fresh", joined([FRESH] + [f"estimate {target} -> none" for target in (0, 1, life, life + 1)])
 
     yield "one id", f"""
         {FRESH}
@@ -60,7 +64,7 @@ def worked_cases():
         block 101 aa -> 0
         estimates -> {" ".join("-" * 25)}
         sum -> any
-        {laid(101, recent=[recent_record("aa", 101)], confirmed=all_targets(33, 0.998), resolved=all_targets(33, 0.998))}"""
+        {laid(101, recent=[recent_record("aa", 101)], confirmed=all_targets(33, once), resolved=all_targets(33, once))}"""
 
     two = [recent_record("aa", 101), recent_record("bb", 101)]
     yield "two ids", f"""
@@ -68,9 +72,9 @@ def worked_cases():
         enter aa 5000 100 -> 0
         enter bb 5000 100 -> 0
         block 101 aa bb -> 0
-        {joined(f"estimate {target} -> rate 1000" for target in range(1, 27))}
+        {joined(f"estimate {target} -> rate 1000" for target in range(1, life + 2))}
         sum -> any
-        {laid(101, recent=two, confirmed=all_targets(33, 1.996), resolved=all_targets(33, 1.996))}"""
+        {laid(101, recent=two, confirmed=all_targets(33, 2 * once), resolved=all_targets(33, 2 * once))}"""
 
     rates = " ".join(["1050"] + ["1000"] * 24)
     yield "Quad", f"""
@@ -79,11 +83,11 @@ def worked_cases():
         enter bb 5000 100 -> 0
         enter cc 1000 100 -> 0
         enter dd 1000 100 -> 0
-        block 101 aa bb -> 0
-        estimate 1 -> rate 1050
-        estimate 2 -> rate 1000
+        block {100 + board.width} aa bb -> 0
+        estimate {board.width} -> rate 1050
+        estimate {board.width + 1} -> rate 1000
         estimates -> {rates}
-        write 58125 -> any
+        write {board.fresh_length + 164} -> any
         sum -> any
         {LEND}
         again -> 0
@@ -91,30 +95,33 @@ def worked_cases():
         estimates -> {rates}"""
 
 
-def expiry_cases():
-    yield "24 blocks, pending; the 25th, gone", f"""
+def expiry_cases(board):
+    width, gone = board.width, 100 + board.life
+    outwaited = [(0, column, decayed(board, board.life - width * column)) for column in range(1, 25)]
+    yield f"{board.life - 1} blocks, pending; the {board.life}th, gone", f"""
         {FRESH}
         enter aa 1000 100 -> 0
-        {joined(f"block {height} -> 0" for height in range(101, 125))}
+        {joined(f"block {height} -> 0" for height in range(101, gone))}
         sum -> any
-        {laid(124, pending=[pending_record("aa", 0, 100, 24)], resolved=[(0, target, decayed(25 - target)) for target in range(1, 25)])}
-        block 125 -> 0
+        {laid(gone - 1, pending=[pending_record("aa", 0, 100, 24)], resolved=outwaited)}
+        block {gone} -> 0
         sum -> any
-        {laid(125, resolved=[(0, target, decayed(26 - target)) for target in range(1, 26)])}"""
+        {laid(gone, resolved=[(0, column, decayed(board, board.life + 1 - width * column)) for column in range(1, 26)])}"""
 
     yield "first block 500, unlisted", f"""
         {FRESH}
         enter aa 1000 100 -> 0
         block 500 -> 0
         sum -> any
-        {laid(500, resolved=all_targets(0, 0.998))}"""
+        {laid(500, resolved=all_targets(0, board.decay))}"""
 
     counted = {"confirmed": all_targets(33, 1.0, first=3), "resolved": all_targets(33, 1.0, first=6)}
-    yield "block 103 below the last height 105", f"""
-        {memory(105, pending=[pending_record("aa", 33, 100, 5)])}
-        block 103 aa -> 0
+    low, last = 100 + 3 * width, 100 + 5 * width
+    yield f"block {low} below the last height {last}", f"""
+        {memory(last, pending=[pending_record("aa", 33, 100, 5)])}
+        block {low} aa -> 0
         sum -> any
-        {laid(105, recent=[recent_record("aa", 103)], **counted)}"""
+        {laid(last, recent=[recent_record("aa", low)], **counted)}"""
 
     yield "confirmed at exactly this height: goes uncounted", f"""
         {memory(100, pending=[pending_record("aa", 0, 90, 9)], recent=[recent_record("aa", 100)])}
@@ -132,7 +139,7 @@ def expiry_cases():
         {laid(127)}"""
 
 
-def gap_cases():
+def gap_cases(board):
     yield "gap 4,096 and 4,097", f"""
         {FRESH}
         block 100 -> 0
@@ -145,7 +152,7 @@ def gap_cases():
         {memory(100, resolved=[(0, 1, 1.0)])}
         block 110 -> 0
         sum -> any
-        {laid(110, resolved=[(0, 1, decayed(10))])}"""
+        {laid(110, resolved=[(0, 1, decayed(board, 10))])}"""
 
     yield "no last height: any first block", f"""
         {FRESH}
@@ -155,19 +162,20 @@ def gap_cases():
         sum -> any"""
 
 
-def estimate_cases():
+def estimate_cases(board):
+    third = 3 * board.width
     yield "a lower bucket may pass again", f"""
         {memory(9, confirmed=[(100, 3, 1.0)], resolved=[(100, 3, 1.0), (50, 3, 9.0)])}
-        estimate 3 -> rate {RATES[51]}
+        estimate {third} -> rate {RATES[51]}
         {count("confirmed", 10, 3, 100.0)}
         {count("resolved", 10, 3, 100.0)}
-        estimate 3 -> rate 1000"""
+        estimate {third} -> rate 1000"""
 
     edges = [(0.85, 1.0, "rate 1000"), (0.8499999999999999, 1.0, "none"), (17.0, 20.0, "rate 1000"), (1.0, 0.9999999999999999, "none")]
     for confirmed, resolved, answer in edges:
         yield f"{confirmed} of {resolved}", f"""
             {memory(9, confirmed=[(0, 25, confirmed)], resolved=[(0, 25, resolved)])}
-            estimate 25 -> {answer}"""
+            estimate {board.life} -> {answer}"""
 
     huge = 1.7976931348623157e308
     yield "infinity over infinity fails", f"""
@@ -178,15 +186,15 @@ def estimate_cases():
         estimate 1 -> rate {RATES[7]}"""
 
 
-def file_cases():
-    fresh, magic = file(), b"BRSEFEES"
-    assert fresh.startswith(bytes.fromhex(FRESH_FILE))
+def file_cases(board):
+    fresh, magic, needed, flag = file(board=board), b"BRSEFEES", board.fresh_length, 8 + len(board.version)
+    assert fresh.startswith(bytes.fromhex(FRESH_FILES[board]))
     yield "fresh file", f"""
         {FRESH}
-        write 57960 -> 12 57961
-        write 57961 -> 0 57961 {adler(fresh)}
-        write 58061 -> 0 57961 {adler(fresh + bytes([0xAA] * 100))}
-        write 0 -> 12 57961"""
+        write {needed - 1} -> 12 {needed}
+        write {needed} -> 0 {needed} {adler(fresh)}
+        write {needed + 100} -> 0 {needed} {adler(fresh + bytes([0xAA] * 100))}
+        write 0 -> 12 {needed}"""
 
     for title, contents, answer in [
         ("no byte", b"", "10"),
@@ -198,20 +206,20 @@ def file_cases():
         ("magic and version 2", magic + u32(2), "9 2"),
         ("magic and version 0", magic + u32(0), "9 0"),
         ("magic and the highest version", magic + u32(TOP), f"9 {TOP}"),
-        ("flag 2", fresh[:12] + b"\2" + fresh[13:], "10"),
-        ("flag 1 without a height", fresh[:12] + b"\1" + fresh[13:], "10"),
+        ("flag 2", fresh[:flag] + b"\2" + fresh[flag + 1 :], "10"),
+        ("flag 1 without a height", fresh[:flag] + b"\1" + fresh[flag + 1 :], "10"),
         ("one byte extra", fresh + b"\0", "10"),
         ("one byte less", fresh[:-1], "10"),
         ("fresh", fresh, "0"),
-        ("height 0", file(last=0), "0"),
-        ("the highest height", file(last=TOP), "0"),
+        ("height 0", file(last=0, board=board), "0"),
+        ("the highest height", file(last=TOP, board=board), "0"),
     ]:
         yield f"file: {title}", f"{LEND}\nread {contents.hex() or '-'} -> {answer}\nsum -> any"
 
     outlived = [pending_record("aa", 141, TOP, 25)]
     yield "resolved-through 25 is read, and goes at the next advance", f"""
         {LEND}
-        read {file(last=7, pending=outlived).hex()} -> 0
+        read {file(last=7, pending=outlived, board=board).hex()} -> 0
         sum -> any
         {laid(7, pending=outlived)}
         block 7 -> 0
@@ -221,28 +229,28 @@ def file_cases():
         {laid(8)}"""
 
 
-def record_cases():
+def record_cases(board):
     twice = [pending_record("bb", 1, 2, 3), pending_record("aa", 4, 5, 6), pending_record("bb", 7, 8, 9)]
     heights = [recent_record("02", 5), recent_record("01", 4), recent_record("02", 3)]
     yield "ids in any order, the last of a repeated one holds", f"""
         {LEND}
-        read {file(pending=twice, recent=heights).hex()} -> 0
+        read {file(pending=twice, recent=heights, board=board).hex()} -> 0
         sum -> any
         {laid("-", pending=twice[1:], recent=heights[1:])}"""
 
     for title, contents, answer in [
-        ("bucket 142", file(pending=[pending_record("aa", 142, 1, 0)]), 10),
-        ("resolved-through 26", file(pending=[pending_record("aa", 0, 1, 26)]), 10),
-        ("three records for two pending places", file(pending=twice), 11),
-        ("three records for two confirmed places", file(recent=heights), 11),
-        ("two and two", file(pending=twice[1:], recent=heights[1:]), 0),
-        ("10,001 pending", head() + u32(142) + rows() + u32(10_001) + bytes(4), 10),
-        ("1,000,001 confirmed", head() + u32(142) + rows() + u32(0) + u32(1_000_001), 10),
+        ("bucket 142", file(pending=[pending_record("aa", 142, 1, 0)], board=board), 10),
+        ("resolved-through 26", file(pending=[pending_record("aa", 0, 1, 26)], board=board), 10),
+        ("three records for two pending places", file(pending=twice, board=board), 11),
+        ("three records for two confirmed places", file(recent=heights, board=board), 11),
+        ("two and two", file(pending=twice[1:], recent=heights[1:], board=board), 0),
+        ("10,001 pending", head(board=board) + u32(142) + rows() + u32(10_001) + bytes(4), 10),
+        ("1,000,001 confirmed", head(board=board) + u32(142) + rows() + u32(0) + u32(1_000_001), 10),
     ]:
         yield f"records: {title}", f"lend 88 72 3550 3550\nread {contents.hex()} -> {answer}\nsum -> any"
 
 
-def count_cases():
+def count_cases(board):
     for title, pattern, is_sound in [
         ("-0.0", "8000000000000000", True),
         ("the least below 0", "8000000000000001", False),
@@ -253,7 +261,7 @@ def count_cases():
         for at, kind in ((0, "confirmed"), (COUNTS - 1, "resolved")):
             yield f"count {title} in a file, {kind}", f"""
                 {LEND}
-                read {file(**{kind: {at: int(pattern, 16)}}).hex()} -> {0 if is_sound else 10}
+                read {file(**{kind: {at: int(pattern, 16)}}, board=board).hex()} -> {0 if is_sound else 10}
                 sum -> any
                 block 1 -> 0
                 sum -> any
@@ -272,7 +280,7 @@ def count_cases():
                 sum -> any"""
 
 
-def capacity_cases():
+def capacity_cases(_board):
     yield "pending full", """
         lend 88 0 3550 3550
         enter aa 1 1 -> 0
@@ -318,10 +326,11 @@ def capacity_cases():
             sum -> any"""
 
 
-def large_cases():
-    full = file(pending=[pending_record(f"{at:04x}", at % 142, at, at % 25) for at in range(10_000)])
-    yield "10,000 pending", f"""
-        lend 440044 36 3550 3550
+def large_cases(board):
+    (pending, pending_bytes), (recent, recent_bytes) = MOST[board]
+    full = file(pending=[pending_record(f"{at:04x}", at % 142, at, at % 25) for at in range(pending)], board=board)
+    yield f"{pending:,} pending", f"""
+        lend {pending_bytes} 36 3550 3550
         read {full.hex()} -> 0
         sum -> any
         enter ffff 1 1 -> 3
@@ -335,9 +344,9 @@ def large_cases():
         again -> 0
         sum -> same"""
 
-    many = file(last=9, recent=[recent_record(f"{at:04x}", at) for at in range(20_002)])
-    yield "20,002 confirmed", f"""
-        lend 44 720100 3550 3550
+    many = file(last=9, recent=[recent_record(f"{at:04x}", at) for at in range(recent)], board=board)
+    yield f"{recent:,} confirmed", f"""
+        lend 44 {recent_bytes} 3550 3550
         read {many.hex()} -> 0
         enter 0011 1 1 -> 0
         block 40 0011 -> 7
@@ -354,11 +363,11 @@ def large_cases():
         blockraw 3 {ids}00 -> 5"""
 
 
-def zero_row_cases():
+def zero_row_cases(board):
     """Rows of zeros, of either sign, which a height does not store (request L2), beside rows that hold one count: the last, the first, or one between."""
-    least = 5e-324  # times 0.998 it rounds to itself
+    least = 5e-324  # times either board's decay it rounds to itself
 
-    def board(one):
+    def counts(one):
         zeros = all_targets(3, -0.0) + all_targets(4, -0.0, first=13)
         among_zeros = [(5, 25, least), (6, 1, least), (7, 12, one)]
         among_minus_zeros = all_targets(8, -0.0)[:-1] + [(8, 25, one), (9, 1, one)] + all_targets(9, -0.0, first=2)
@@ -366,24 +375,25 @@ def zero_row_cases():
 
     for title, kinds in ("confirmed", ["confirmed"]), ("resolved", ["resolved"]), ("both kinds", ["confirmed", "resolved"]):
         yield f"rows of zeros, {title}", f"""
-            {memory("-", **{kind: board(1.0) for kind in kinds})}
+            {memory("-", **{kind: counts(1.0) for kind in kinds})}
             block 100 -> 0
             sum -> any
-            {laid(100, **{kind: board(decayed(1)) for kind in kinds})}
+            {laid(100, **{kind: counts(decayed(board, 1)) for kind in kinds})}
             block 140 -> 0
             sum -> any
-            {laid(140, **{kind: board(decayed(41)) for kind in kinds})}
+            {laid(140, **{kind: counts(decayed(board, 41)) for kind in kinds})}
             write 58000 -> any
             again -> 0
             sum -> same"""
 
 
-def scripts():
+def scripts(board=NARROW):
     """Each case's title, the bytes of its script, and for each printed line the answer, `any`, or the number of the line that it repeats."""
     makers = rate_cases, worked_cases, expiry_cases, gap_cases, estimate_cases, file_cases, record_cases, count_cases, capacity_cases, large_cases
+    first = "" if board is NARROW else f"board {board.word}\n"
     for maker in (*makers, zero_row_cases):
-        for title, text in maker():
-            yield title, *script(text)
+        for title, text in maker(board):
+            yield title, *script(first + text.strip())
 
 
 def script(text):

@@ -1,13 +1,17 @@
-"""Seeded random scripts, one maker for each flavour. A maker takes a source of randomness and gives the script's bytes."""
+"""Seeded random scripts, one maker for each flavour. A maker takes a source of randomness and a board, and gives the bytes of a script for that board."""
 
 import random
 import struct
 
-from files import BUCKETS, COUNTS, FRESH_LENGTH, PENDING, RECENT, TARGETS, bits, file, place, u32
+from files import BUCKETS, COUNTS, NARROW, PENDING, RECENT, TARGETS, WIDE, bits, file, place, u32
 from histories import HIGHEST, LEAST, MINUS_ZERO, any_file, any_pattern, damaged_file, near_threshold
 from walk import TOP, Walk, any_height, any_rate
 
 DAMAGED = (PENDING * 10 + 20, RECENT * 10 + 20, COUNTS + 10, COUNTS + 10)  # what is lent where damage is done
+LARGE = {  # records in both tables; the most bytes that can be lent, and the least that hold as many records
+    NARROW: ([(10_000, 200), (9_999, 5), (2_000, 12_000), (10, 20_002)], (440_100, 720_100), (440_000, 720_072)),
+    WIDE: ([(1_002, 200), (1_001, 5), (200, 1_200), (10, 2_002)], (44_100, 72_100), (44_088, 72_072)),
+}
 UNSOUND = ["nan", "7ff0000000000000", "fff0000000000000", "bff0000000000000", "8000000000000001", "ffefffffffffffff", "7ff0000000000001"]
 
 
@@ -15,9 +19,9 @@ def roomy(walk):
     walk.lend(PENDING * walk.rng.randint(12, 60), RECENT * walk.rng.randint(40, 200))
 
 
-def rising(rng):
+def rising(rng, board):
     """From fresh, heights strictly rising."""
-    walk = Walk(rng, pool=rng.choice([4, 12, 40]))
+    walk = Walk(rng, board, pool=rng.choice([4, 12, 40]))
     walk.rising = True
     roomy(walk)
     walk.start()
@@ -27,9 +31,9 @@ def rising(rng):
     return walk.text()
 
 
-def wandering(rng):
+def wandering(rng, board):
     """From fresh, with equal and lower heights, gaps, duplicates and re-entries."""
-    walk = Walk(rng, pool=rng.choice([2, 4, 12]))
+    walk = Walk(rng, board, pool=rng.choice([2, 4, 12]))
     walk.steadiness = rng.choice([0.1, 0.4, 0.7])
     roomy(walk)
     walk.start()
@@ -39,9 +43,9 @@ def wandering(rng):
     return walk.text()
 
 
-def busy(rng):
+def busy(rng, board):
     """Many entries and confirmations at a few rates, so that estimates move."""
-    walk = Walk(rng, pool=40)
+    walk = Walk(rng, board, pool=40)
     roomy(walk)
     walk.start()
     walk.add("block", 99)
@@ -56,19 +60,19 @@ def busy(rng):
     return walk.text()
 
 
-def expiry(rng):
+def expiry(rng, board):
     """Records at the very edges of expiry and pruning, reached by single steps or in one gap."""
-    walk = Walk(rng, pool=6)
+    walk = Walk(rng, board, pool=6)
     roomy(walk)
     walk.start()
-    base = rng.choice([1, 30, 100, 800_000, TOP - 100])
+    base, life = rng.choice([1, 30, 100, 800_000, TOP - 100]), board.life
     walk.block(base, [])
     for _ in range(12):
         name = rng.choice(walk.pool)
-        entry = walk.bounded(walk.now() + rng.choice([-26, -25, -24, -1, 0, 0, 0, 1, 2]))
+        entry = walk.bounded(walk.now() + rng.choice([-life - 1, -life, 1 - life, -1, 0, 0, 0, 1, 2]))
         walk.add("enter", name, rng.choice(walk.rates), entry)
         walk.pending.setdefault(name, entry)
-        goal = walk.bounded(max(walk.now(), entry) + rng.choice([1, 2, 24, 25, 26, 27]))
+        goal = walk.bounded(max(walk.now(), entry) + rng.choice([1, 2, *range(life - 1, life + 3), *board.inner]))
         if rng.random() < 0.5:
             stop = rng.randint(walk.now(), goal)
             for height in range(max(walk.now() + 1, stop - 4), stop):
@@ -76,9 +80,9 @@ def expiry(rng):
                 walk.add("sum")
         walk.block(goal, [name] * rng.choice([0, 1, 1, 2]))
         walk.add("sum")
-        walk.add("estimate", rng.randint(1, 25))
+        walk.add("estimate", rng.randint(1, life))
         if rng.random() < 0.4:
-            walk.block(walk.bounded(goal - rng.choice([0, 1, 24, 25, 26])), [name])
+            walk.block(walk.bounded(goal - rng.choice([0, 1, life - 1, life, life + 1, *board.inner])), [name])
             walk.add("sum")
     return walk.text()
 
@@ -94,23 +98,23 @@ def restore(walk, parts):
     walk.add("estimates")
 
 
-def restored(rng):
+def restored(rng, board):
     """A restored history of any height, walked on from."""
-    walk = Walk(rng)
+    walk = Walk(rng, board)
     walk.steadiness = rng.choice([0.2, 0.6, 0.9])
     roomy(walk)
     for _ in range(rng.choice([1, 1, 2])):
-        restore(walk, any_file(rng))
+        restore(walk, any_file(rng, board))
         walk.steps(45)
     return walk.text()
 
 
-def thresholds(rng):
+def thresholds(rng, board):
     """Sums by 0.85 and 1.0 under decay and counting."""
-    walk = Walk(rng, pool=6)
+    walk = Walk(rng, board, pool=6)
     roomy(walk)
     confirmed, resolved = near_threshold(rng)
-    restore(walk, {"last": 100, "confirmed": confirmed, "resolved": resolved, "pending": [], "recent": []})
+    restore(walk, {"last": 100, "confirmed": confirmed, "resolved": resolved, "pending": [], "recent": [], "board": board})
     for _ in range(30):
         walk.enter()
         walk.block()
@@ -119,9 +123,9 @@ def thresholds(rng):
     return walk.text()
 
 
-def extremes(rng):
+def extremes(rng, board):
     """-0.0, the least and the highest counts, and sums that reach infinity, set in memory."""
-    walk = Walk(rng, pool=6)
+    walk = Walk(rng, board, pool=6)
     roomy(walk)
     column = rng.randint(1, TARGETS)
     patterns = rng.choice([[HIGHEST], [MINUS_ZERO], [LEAST, LEAST + 1], [MINUS_ZERO, HIGHEST, LEAST, bits(1.0), bits(1e308)]])
@@ -136,14 +140,14 @@ def extremes(rng):
     return walk.text()
 
 
-def damaged_files(rng):
+def damaged_files(rng, board):
     """Files damaged in each way, on memory that holds something."""
-    walk = Walk(rng, pool=4)
+    walk = Walk(rng, board, pool=4)
     pending, recent = rng.choice([(0, 0), (3, 3), (20, 30)])
     walk.lend(PENDING * pending + rng.randrange(PENDING), RECENT * recent + rng.randrange(RECENT))
     walk.steps(4)
     for _ in range(12):
-        parts = any_file(rng, rng.choice([0, 1, 3, 4]), rng.choice([0, 1, 3, 4]))
+        parts = any_file(rng, board, rng.choice([0, 1, 3, 4]), rng.choice([0, 1, 3, 4]))
         walk.add("read", damaged_file(rng, parts).hex() or "-")
         walk.add("sum")
         if rng.random() < 0.3:
@@ -151,15 +155,15 @@ def damaged_files(rng):
     return walk.text()
 
 
-def round_trips(rng):
+def round_trips(rng, board):
     """Memory written, and read into other memory, with too little output and too little room at times."""
-    walk = Walk(rng, pool=8)
+    walk, fresh = Walk(rng, board, pool=8), board.fresh_length
     roomy(walk)
     if rng.random() < 0.3:
-        restore(walk, any_file(rng))
+        restore(walk, any_file(rng, board))
     for _ in range(6):
         walk.steps(6)
-        walk.add("write", rng.choice([0, FRESH_LENGTH - 1, FRESH_LENGTH, FRESH_LENGTH + 4, FRESH_LENGTH + rng.randrange(2_000), 1_400_000]))
+        walk.add("write", rng.choice([0, fresh - 1, fresh, fresh + 4, fresh + rng.randrange(2_000), 1_400_000]))
         walk.add("sum")
         if rng.random() < 0.6:
             pending, recent = (size * rng.choice([0, 1, 2, 3, 5, 60]) + rng.randrange(size) for size in (PENDING, RECENT))
@@ -167,19 +171,19 @@ def round_trips(rng):
             junk(walk)
         walk.add("again")
         walk.add("sum")
-        walk.add("estimate", rng.randint(0, 26))
+        walk.add("estimate", rng.randint(0, board.life + 1))
     return walk.text()
 
 
-def exact_lengths(rng):
+def exact_lengths(rng, board):
     """Outputs of just the needed length, one less and one more, on fresh memory with known records."""
-    walk = Walk(rng)
+    walk = Walk(rng, board)
     walk.pool = [f"{at:02x}" for at in rng.sample(range(256), 12)]
     roomy(walk)
     pending = recent = 0
     last = None
     for at, name in enumerate(walk.pool):
-        needed = FRESH_LENGTH + (0 if last is None else 4) + PENDING * pending + RECENT * recent
+        needed = board.fresh_length + (0 if last is None else 4) + PENDING * pending + RECENT * recent
         for length in rng.sample([needed - 1, needed, needed + 1, needed + 40], 3):
             walk.add("write", length)
         walk.add("again")
@@ -209,9 +213,9 @@ def junk(walk):
             walk.add("count", kind, walk.rng.randrange(COUNTS, lent), walk.rng.choice(UNSOUND))
 
 
-def odd_lengths(rng):
+def odd_lengths(rng, board):
     """Slices of odd lengths, junk past the capacities, counts too short."""
-    walk = Walk(rng, pool=5)
+    walk = Walk(rng, board, pool=5)
     for _ in range(6):
         edges = ([0, 1, size - 1, size, size + 1, 2 * size - 1, 2 * size, rng.randrange(8 * size)] for size in (PENDING, RECENT))
         lengths = [rng.choice(lengths) for lengths in edges]
@@ -227,18 +231,18 @@ def odd_lengths(rng):
     return walk.text()
 
 
-def crowded(rng):
+def crowded(rng, board):
     """Tables of a few places: full ones, and listings counted each."""
-    walk = Walk(rng, pool=rng.choice([3, 5, 8]))
+    walk = Walk(rng, board, pool=rng.choice([3, 5, 8]))
     walk.lend(PENDING * rng.randint(0, 5), RECENT * rng.randint(0, 6))
     walk.start()
     walk.steps(80)
     return walk.text()
 
 
-def wide_gaps(rng):
+def wide_gaps(rng, board):
     """Gaps by 4,096 and blocks anywhere."""
-    walk = Walk(rng, pool=4)
+    walk = Walk(rng, board, pool=4)
     roomy(walk)
     walk.block(rng.choice([0, 100, rng.randrange(2**32), TOP - 4_096, TOP - 4_097]))
     walk.steps(20)
@@ -282,16 +286,16 @@ def damage(walk):
     walk.add(*rng.choice(changes))
 
 
-def damaged_memory(rng):
+def damaged_memory(rng, board):
     """Each kind of damage, and every call upon it; a start or a reading mends it."""
-    walk = Walk(rng, pool=5)
+    walk = Walk(rng, board, pool=5)
     walk.lend(*DAMAGED)
     for _ in range(8):
         walk.steps(rng.randint(0, 8))
         walk.add("write", 60_000)
         for _ in range(rng.choice([1, 1, 1, 2, 3])):
             damage(walk)
-        calls = [walk.enter, walk.leave, walk.block, lambda: walk.add("estimate", rng.randint(0, 26)), lambda: walk.add("write", 60_000)]
+        calls = [walk.enter, walk.leave, walk.block, lambda: walk.add("estimate", rng.randint(0, board.life + 1)), lambda: walk.add("write", 60_000)]
         for call in rng.sample(calls, 4):
             call()
             walk.add("sum")
@@ -301,9 +305,9 @@ def damaged_memory(rng):
     return walk.text()
 
 
-def rates(rng):
+def rates(rng, board):
     """Rates and their buckets, in lookups and in entries."""
-    walk = Walk(rng)
+    walk = Walk(rng, board)
     walk.lend(PENDING * 60, 0)
     for _ in range(100):
         rate = any_rate(rng)
@@ -314,9 +318,9 @@ def rates(rng):
     return walk.text()
 
 
-def scribbled(rng):
+def scribbled(rng, board):
     """A sound script with one line changed at a letter, so that it may not fit."""
-    walk = Walk(rng, pool=5)
+    walk = Walk(rng, board, pool=5)
     walk.lend(*DAMAGED)
     walk.steps(20)
     for _ in range(4):
@@ -331,12 +335,13 @@ def scribbled(rng):
     return bytes(text)
 
 
-def large(rng):
+def large(rng, board):
     """Tables of thousands of records."""
-    walk = Walk(rng)
-    pending, recent = rng.choice([(10_000, 200), (9_999, 5), (2_000, 12_000), (10, 20_002)])
-    walk.lend(*rng.choice([(440_100, 720_100), (PENDING * pending, RECENT * recent), (440_000, 720_072)]))
-    restore(walk, {**any_file(rng, 0, 0), "pending": numbered(rng, pending, True), "recent": numbered(rng, recent, False)})
+    walk = Walk(rng, board)
+    crowds, most, least = LARGE[board]
+    pending, recent = rng.choice(crowds)
+    walk.lend(*rng.choice([most, (PENDING * pending, RECENT * recent), least]))
+    restore(walk, {**any_file(rng, board, 0, 0), "pending": numbered(rng, pending, True), "recent": numbered(rng, recent, False)})
     walk.steps(8)
     walk.add("blockraw", walk.now() + 1, "".join(list(walk.pending)[:3_000]) or "-")
     walk.add("sum")
@@ -377,8 +382,12 @@ SHARES = {
 }
 
 
+def any_maker(rng):
+    return rng.choices(list(SHARES), list(SHARES.values()))[0]
+
+
 def script(seed, number):
-    """The name and the bytes of one random script."""
+    """The name and the bytes of one random script for the narrow board."""
     rng = random.Random(f"{seed} {number}")
-    maker = rng.choices(list(SHARES), list(SHARES.values()))[0]
-    return f"{maker.__name__} {number}", maker(rng)
+    maker = any_maker(rng)
+    return f"{maker.__name__} {number}", maker(rng, NARROW)

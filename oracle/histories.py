@@ -2,7 +2,7 @@
 
 import struct
 
-from files import BUCKETS, COUNTS, PENDING, ROW, TARGETS, bits, file, head, name, place, u32
+from files import BUCKETS, COUNTS, NARROW, PENDING, ROW, TARGETS, bits, file, head, name, place, u32
 from walk import TOP, any_height, ids
 
 MINUS_ZERO, LEAST, HIGHEST, INFINITE = 1 << 63, 1, 0x7FEFFFFFFFFFFFFF, 0x7FF0000000000000
@@ -34,12 +34,13 @@ def near_threshold(rng):
     return confirmed, resolved
 
 
-def any_records(rng, last, pending, recent):
+def any_records(rng, board, last, pending, recent):
     """Records in any order, some ids repeated, with heights about the last one or anywhere."""
-    around = 100 if last is None else last
+    around, life, far = 100 if last is None else last, board.life, 60 * board.width
+    ages = [life + 2, life + 1, life, life - 1, 1, 0, -1]
 
     def height():
-        near = min(TOP, max(0, around + rng.choice([-27, -26, -25, -24, -1, 0, 1, rng.randrange(-60, 60)])))
+        near = min(TOP, max(0, around + rng.choice([*(-age for age in ages), rng.randrange(-far, far), *(-age for age in board.inner)])))
         return near if rng.random() < 0.9 else any_height(rng)
 
     def fields():
@@ -54,14 +55,14 @@ def any_records(rng, last, pending, recent):
     return waiting, done
 
 
-def any_file(rng, pending=None, recent=None):
-    """The parts of a file that the Rust accepts."""
+def any_file(rng, board, pending=None, recent=None):
+    """The parts of a file that is accepted."""
     last = None if rng.random() < 0.2 else any_height(rng)
     pending = rng.choice([0, 1, 5, 12]) if pending is None else pending
     recent = rng.choice([0, 1, 5, 20]) if recent is None else recent
     confirmed, resolved = any_counts(rng)
-    waiting, done = any_records(rng, last, pending, recent)
-    return {"last": last, "confirmed": confirmed, "resolved": resolved, "pending": waiting, "recent": done}
+    waiting, done = any_records(rng, board, last, pending, recent)
+    return {"last": last, "confirmed": confirmed, "resolved": resolved, "pending": waiting, "recent": done, "board": board}
 
 
 def with_count(parts, pattern, rng):
@@ -84,12 +85,13 @@ def with_rate(whole, start, rng):
 
 def damaged_file(rng, parts):
     """One way of damaging a file, each way as likely as the others; some leave it sound."""
-    whole, prefix = file(**parts), head(parts["last"])
+    board = parts["board"]
+    whole, prefix = file(**parts), head(parts["last"], board)
     pending, recent = parts["pending"], parts["recent"]
-    start = len(prefix) + 4
+    start, flag = len(prefix) + 4, 8 + len(board.version)
     tables = start + ROW * BUCKETS
     after_pending = tables + 4 + PENDING * len(pending)
-    marks = [0, 7, 8, 11, 12, 13, start - 4, start, start + 8, start + 208, start + ROW]
+    marks = [0, 7, 8, 11, flag, flag + 1, start - 4, start, start + 8, start + 208, start + ROW]
     marks += [tables, tables + 4, after_pending, after_pending + 4, len(whole)]
 
     def cut():
@@ -111,13 +113,13 @@ def damaged_file(rng, parts):
 
     ways = [
         cut,
-        lambda: whole[: rng.randint(1, 17)],
+        lambda: whole[: rng.randint(1, flag + 5)],
         lambda: whole + rng.randbytes(rng.choice([1, 4, 36, 44])),
         lambda: bytes([whole[0] ^ 1]) + whole[1:],
         lambda: whole[:7] + b"s" + whole[8:],
         lambda: whole[:8] + u32(rng.choice([0, 2, 3, 256, 2**24 + 1, TOP])) + whole[12:],
-        lambda: whole[:12] + bytes([rng.choice([2, 3, 128, 255])]) + whole[13:],
-        lambda: whole[:12] + bytes([whole[12] ^ 1]) + whole[13:],
+        lambda: whole[:flag] + bytes([rng.choice([2, 3, 128, 255])]) + whole[flag + 1 :],
+        lambda: whole[:flag] + bytes([whole[flag] ^ 1]) + whole[flag + 1 :],
         lambda: prefix + u32(rng.choice([0, 1, 141, 143, 142 + 2**16, TOP])) + whole[start:],
         lambda: prefix + u32(143) + whole[start:tables] + whole[tables - ROW :],
         lambda: prefix + u32(141) + whole[start : tables - ROW] + whole[tables:],
@@ -136,4 +138,10 @@ def damaged_file(rng, parts):
         lambda: rng.randbytes(rng.randint(1, 40)),
         lambda: whole,
     ]
+    if board is not NARROW:
+        ways += [
+            lambda: whole[:12] + u32(rng.choice([0, 1, 5, 7, 25, 6 * 256, 6 + 2**24, TOP])) + whole[16:],
+            lambda: whole[:12] + whole[16:],
+            lambda: file(**{**parts, "board": NARROW}),
+        ]
     return rng.choice(ways)()

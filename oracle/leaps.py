@@ -6,13 +6,14 @@ with --any-gap; all other lines must be the same."""
 import random
 import re
 
+from files import NARROW
 from flavours import restore, roomy
 from histories import any_file
 from walk import TOP, Walk
 
 STEPS = re.compile(rb"^# step\nblock [0-9]+$", re.MULTILINE)
 WIDEST = 4_096
-SILENT = (b"lend", b"byte", b"count", b"state")
+SILENT = (b"lend", b"byte", b"count", b"state", b"board")
 
 
 def leap(walk, height):
@@ -29,11 +30,11 @@ def leap(walk, height):
 def script(seed, number):
     """The name and the bytes of one script: from fresh or from a history, with records of every age before each leap and after it."""
     rng = random.Random(f"leap {seed} {number}")
-    walk = Walk(rng, pool=6)
+    walk = Walk(rng, NARROW, pool=6)
     roomy(walk)
     walk.start()
     if rng.random() < 0.4:
-        restore(walk, any_file(rng, rng.randint(0, 6), rng.randint(0, 12)))
+        restore(walk, any_file(rng, NARROW, rng.randint(0, 6), rng.randint(0, 12)))
     walk.steps(15)
     for _ in range(3):
         walk.block()

@@ -1,13 +1,16 @@
 #!/usr/bin/env python3
-"""A second port to hold against the oracle: runs a script from standard input over rules.py, and prints the lines that `replay`
-must print."""
+"""A second port: runs a script from standard input over rules.py, and prints the lines that `replay` must print. On the narrow board it is held against the
+oracle; on the wide one, which the Rust does not have, `replay` is held against it."""
 
 import math
 import re
 import struct
 import sys
 
-from rules import DAMAGED, Damaged, Memory, Refused, Run, bucket_of
+from rules import DAMAGED, NARROW, WIDE, Damaged, Memory, Refused, Run, bucket_of
+
+BOARDS = {b"narrow": NARROW, b"wide": WIDE}
+MOST_LENT = {NARROW: (440_100, 720_100, 3_600, 3_600), WIDE: (44_100, 72_100, 3_600, 3_600)}
 
 
 class Unfit(Exception):
@@ -44,19 +47,24 @@ def name(word):
 
 
 class Script:
-    """The lines of a script, over a run."""
+    """The lines of a script, over a run that has the memory of one board at a time. What the run has written is common to both."""
 
     def __init__(self):
-        self.run = Run()
+        self.run, self.board, self.memories = Run(), NARROW, {}
 
     def line(self, words):
         """Runs one line, and answers what it prints or None."""
         operation, words = words[0], words[1:]
+        if operation == b"board":
+            if len(words) != 1 or words[0] not in BOARDS:
+                raise Unfit
+            self.turn_to(BOARDS[words[0]])
+            return None
         if operation == b"lend":
             if len(words) != 4:
                 raise Unfit
-            most = (440_100, 720_100, 3_600, 3_600)
-            self.run.memory = Memory(*(decimal(word, bound) for word, bound in zip(words, most)))
+            lent = [decimal(word, bound) for word, bound in zip(words, MOST_LENT[self.board])]
+            self.run.memory = Memory(*lent, self.board)
             return None
         if operation in self.DAMAGES:
             if len(words) != 3 or self.run.memory is None:
@@ -64,6 +72,11 @@ class Script:
             self.DAMAGES[operation](self, *words)
             return None
         return self.call(operation, words)
+
+    def turn_to(self, board):
+        """The lines that follow are for this board, with its memory if there is one."""
+        self.memories[self.board] = self.run.memory
+        self.board, self.run.memory = board, self.memories.get(board)
 
     def byte(self, table, at, word):
         tables = {b"pending": self.run.memory.pending, b"confirmed": self.run.memory.recent}

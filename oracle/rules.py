@@ -1,12 +1,14 @@
-"""Document 01 in Python, written from its words and not from the Rust. Python's floats are binary64, so counts agree with the
-Rust's bit for bit or not at all."""
+"""Document 01 in Python, and document 02's slower horizon (L10), written from their words and not from the Rust. Python's floats are binary64, so
+counts agree with the Rust's bit for bit or not at all. The Rust is the narrow board alone."""
 
 import math
 import struct
 import zlib
+from typing import NamedTuple
 
-TARGETS, BUCKETS = 25, 142
-COUNTS = BUCKETS * TARGETS
+COLUMNS, BUCKETS = 25, 142
+COUNTS = BUCKETS * COLUMNS
+PRUNED_AFTER = 25  # blocks, on either board
 MOST_PENDING, MOST_RECENT = 10_000, 1_000_000
 PENDING, RECENT = struct.Struct("<32sIII"), struct.Struct("<32sI")
 MAGIC = b"BRSEFEES"
@@ -14,6 +16,27 @@ MAGIC = b"BRSEFEES"
 # Answer numbers.
 DONE, DAMAGED, ALREADY_PENDING, PENDING_FULL, ABSENT, BAD_LIST, GAP_TOO_WIDE, CONFIRMED_FULL = range(8)
 BAD_MAGIC, UNKNOWN_VERSION, CORRUPT, NO_ROOM, SHORT_OUTPUT = range(8, 13)
+
+
+class Board(NamedTuple):
+    """What the two boards differ in. Column c is for waits up to width times c."""
+
+    width: int  # blocks to a column
+    decay: float  # by which each height multiplies every count
+    version: int  # of the history file
+    after_version: bytes  # directly after the version number
+
+    def outwaited(self, wait):
+        """The columns whose time is up for a record that has waited so long."""
+        return min(COLUMNS, max(0, wait) // self.width)
+
+    def covering(self, target):
+        """The column that covers a target, which is above 0."""
+        return math.ceil(min(target, COLUMNS * self.width) / self.width)
+
+
+NARROW = Board(1, 0.998, 1, b"")
+WIDE = Board(6, 0.9995, 3, bytes([6, 0, 0, 0]))
 
 
 def ladder():
@@ -40,9 +63,10 @@ class Refused(Exception):
 
 
 class Memory:
-    """What the caller lends, and the state beside it."""
+    """What the caller lends for a board, and the state beside it."""
 
-    def __init__(self, pending, recent, confirmed, resolved):
+    def __init__(self, pending, recent, confirmed, resolved, board=NARROW):
+        self.board = board
         self.pending, self.recent = bytearray(pending), bytearray(recent)
         self.confirmed, self.resolved = [0.0] * confirmed, [0.0] * resolved
         self.last, self.used_pending, self.used_recent = None, 0, 0
@@ -65,7 +89,7 @@ class Memory:
     def pending_records(self):
         """The pending records by id: bucket, entry height, resolved-through. Judges the table."""
         records = judged(self.pending, PENDING, self.used_pending, self.pending_capacity())
-        if any(bucket >= BUCKETS or through > TARGETS for _, bucket, _, through in records):
+        if any(bucket >= BUCKETS or through > COLUMNS for _, bucket, _, through in records):
             raise Damaged
         return {name: fields for name, *fields in records}
 
@@ -112,7 +136,7 @@ class Block:
 
     def __init__(self, memory, pending, recent):
         self.memory, self.pending, self.recent = memory, pending, recent
-        self.last = memory.last
+        self.board, self.last = memory.board, memory.last
 
     def connect(self, ids, height):
         advances = self.last is None or height > self.last
@@ -133,35 +157,36 @@ class Block:
 
     def count(self, bucket, entry, through, height):
         wait = max(1, height - entry)
-        for target in range(1, TARGETS + 1):
-            if wait <= target:
-                self.memory.confirmed[place(bucket, target)] += 1.0
-            if through < target:
-                self.memory.resolved[place(bucket, target)] += 1.0
+        for column in range(1, COLUMNS + 1):
+            if wait <= self.board.width * column:
+                self.memory.confirmed[place(bucket, column)] += 1.0
+            if through < column:
+                self.memory.resolved[place(bucket, column)] += 1.0
 
     def advance(self, height):
         for name, (bucket, entry, through) in list(self.pending.items()):
-            reached = max(through, min(TARGETS, max(0, height - entry)))
-            for target in range(through + 1, reached + 1):
-                self.memory.resolved[place(bucket, target)] += 1.0
+            reached = max(through, self.board.outwaited(height - entry))
+            for column in range(through + 1, reached + 1):
+                self.memory.resolved[place(bucket, column)] += 1.0
             self.pending[name] = [bucket, entry, reached]
-            if reached == TARGETS:
+            if reached == COLUMNS:
                 del self.pending[name]
         self.last = height
-        decayed = ([count * 0.998 for count in counts[:COUNTS]] for counts in (self.memory.confirmed, self.memory.resolved))
+        decay = self.board.decay
+        decayed = ([count * decay for count in counts[:COUNTS]] for counts in (self.memory.confirmed, self.memory.resolved))
         self.memory.lay_counts(*decayed)
-        self.recent = {name: at for name, at in self.recent.items() if height - at <= TARGETS}
+        self.recent = {name: at for name, at in self.recent.items() if height - at <= PRUNED_AFTER}
 
 
-def place(bucket, target):
-    return bucket * TARGETS + target - 1
+def place(bucket, column):
+    return bucket * COLUMNS + column - 1
 
 
 class File:
-    """A reader of the history file's bytes."""
+    """A reader of the bytes of a board's history file."""
 
-    def __init__(self, contents):
-        self.left = contents
+    def __init__(self, contents, board):
+        self.left, self.board = contents, board
 
     def take(self, count):
         if len(self.left) < count:
@@ -173,7 +198,7 @@ class File:
         return int.from_bytes(self.take(size), "little")
 
     def row(self):
-        counts = struct.unpack("<25d", self.take(TARGETS * 8))
+        counts = struct.unpack("<25d", self.take(COLUMNS * 8))
         if not sound(counts):
             raise Refused(CORRUPT)
         return counts
@@ -189,8 +214,10 @@ class File:
         if self.take(8) != MAGIC:
             raise Refused(BAD_MAGIC)
         version = self.number()
-        if version != 1:
+        if version != self.board.version:
             raise Refused(UNKNOWN_VERSION, version)
+        if self.take(len(self.board.after_version)) != self.board.after_version:
+            raise Refused(CORRUPT)
         flag = self.number(1)
         if flag > 1:
             raise Refused(CORRUPT)
@@ -204,7 +231,7 @@ class File:
             confirmed.extend(self.row())
             resolved.extend(self.row())
         pending = self.records(PENDING, MOST_PENDING)
-        if any(bucket >= BUCKETS or through > TARGETS for _, bucket, _, through in pending):
+        if any(bucket >= BUCKETS or through > COLUMNS for _, bucket, _, through in pending):
             raise Refused(CORRUPT)
         recent = self.records(RECENT, MOST_RECENT)
         if self.left:
@@ -261,7 +288,7 @@ class Run:
         """The estimate over sound counts, or none."""
         if target == 0:
             return None
-        column = min(target, TARGETS)
+        column = self.memory.board.covering(target)
         confirmed = resolved = 0.0
         answer = None
         for bucket in reversed(range(BUCKETS)):
@@ -278,18 +305,19 @@ class Run:
 
     def estimates(self):
         self.memory.judge_counts()
-        rates = [self.rate(target) for target in range(1, TARGETS + 1)]
+        width = self.memory.board.width
+        rates = [self.rate(width * column) for column in range(1, COLUMNS + 1)]
         return " ".join("-" if rate is None else str(rate) for rate in rates)
 
     def write(self, length):
         memory = self.memory
         memory.judge_counts()
         pending, recent = memory.pending_records(), memory.recent_records()
-        parts = [MAGIC, number(1)]
+        parts = [MAGIC, number(memory.board.version), memory.board.after_version]
         parts += [b"\0"] if memory.last is None else [b"\1", number(memory.last)]
         parts.append(number(BUCKETS))
         for bucket, rate in enumerate(RATES):
-            row = slice(bucket * TARGETS, (bucket + 1) * TARGETS)
+            row = slice(bucket * COLUMNS, (bucket + 1) * COLUMNS)
             parts.append(struct.pack("<Q50d", rate, *memory.confirmed[row], *memory.resolved[row]))
         parts += [number(len(pending)), memory.pending[: len(pending) * PENDING.size]]
         parts += [number(len(recent)), memory.recent[: len(recent) * RECENT.size]]
@@ -301,7 +329,7 @@ class Run:
 
     def read(self, contents):
         self.memory.judge_lengths()
-        last, confirmed, resolved, pending, recent = File(contents).whole()
+        last, confirmed, resolved, pending, recent = File(contents, self.memory.board).whole()
         if len(pending) > self.memory.pending_capacity() or len(recent) > self.memory.recent_capacity():
             raise Refused(NO_ROOM)
         self.memory.last = last

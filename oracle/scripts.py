@@ -7,10 +7,14 @@ import exhaustive
 import flavours
 import leaps
 import page
+import turns
+import wide
 import worked
+from files import WIDE
 
-KINDS = ["fixed", "worked", "exhaustive", "random", "leaps"]
-RANDOM_FOR_A_LEAP = 40  # random scripts, for each that leaps over a gap above 4,096
+KINDS = ["fixed", "worked", "exhaustive", "random", "leaps", "boards"]
+# how many random scripts there are for each random one of these kinds
+RANDOM_FOR = {"leaps": 40, "boards": 5}
 
 
 def scripts(kind, seed, count):
@@ -23,7 +27,11 @@ def scripts(kind, seed, count):
     elif kind == "exhaustive":
         yield from ((name, text, None) for name, text in exhaustive.scripts())
     else:
-        maker, many = (flavours, count) if kind == "random" else (leaps, -(-count // RANDOM_FOR_A_LEAP))
+        if kind == "boards":
+            yield from ((f"wide, {title}", text, answers) for title, text, answers in edges.scripts(WIDE))
+            yield from wide.scripts()
+        maker = {"random": flavours, "leaps": leaps, "boards": turns}[kind]
+        many = -(-count // RANDOM_FOR.get(kind, 1))
         yield from ((*maker.script(seed, number), None) for number in range(1, many + 1))
 
 

@@ -4,7 +4,6 @@ what the calls answer is for the two programs to say."""
 from files import RATES, TARGETS
 
 TOP = 2**32 - 1
-EDGES = (1, 2, 3, 23, 24, 25, 26, 27)
 
 
 def ids(rng, count):
@@ -32,8 +31,8 @@ def any_height(rng):
 class Walk:
     """The lines of one script, and what the walk believes of the estimator."""
 
-    def __init__(self, rng, pool=12):
-        self.rng, self.lines = rng, []
+    def __init__(self, rng, board, pool=12):
+        self.rng, self.board, self.lines = rng, board, []
         self.pool, self.rates = ids(rng, pool), [any_rate(rng) for _ in range(rng.randint(1, 4))]
         self.last, self.pending, self.recent = None, {}, {}
         self.rising, self.steadiness = False, 0.6
@@ -65,7 +64,8 @@ class Walk:
     def enter(self):
         rng = self.rng
         name = rng.choice(self.pool)
-        height = self.now() + rng.choice([0, 0, 0, 0, 1, -1, -rng.randrange(30), rng.randrange(30)])
+        far = 30 * self.board.width
+        height = self.now() + rng.choice([0, 0, 0, 0, 1, -1, -rng.randrange(far), rng.randrange(far)])
         height = self.bounded(height) if self.chance(0.97) else any_height(rng)
         self.add("enter", name, rng.choice(self.rates) if self.chance(0.9) else any_rate(rng), height)
         self.pending.setdefault(name, height)
@@ -82,11 +82,11 @@ class Walk:
         if self.chance(self.steadiness):
             return self.bounded(now + 1)
         marks = list(self.pending.values()) + list(self.recent.values())
-        edges = [self.bounded(mark + rng.choice(EDGES)) for mark in marks]
+        edges = [self.bounded(mark + rng.choice(self.board.ages)) for mark in marks]
         edges = [edge for edge in edges if now - 60 <= edge <= now + 200]
         choices = edges[:8] + [now + rng.randint(2, 30)] * 3
         if not self.rising:
-            choices += [now, now, now - 1, now - rng.randrange(40)]
+            choices += [now, now, now - 1, now - rng.randrange(40 * self.board.width)]
         height = self.bounded(rng.choice(choices))
         if self.rising:
             height = max(height, self.bounded(now + 1))
@@ -113,13 +113,13 @@ class Walk:
                 self.recent[name] = height
         if self.last is None or height > self.last:
             self.last = height
-            self.pending = {name: entry for name, entry in self.pending.items() if height - entry < TARGETS}
+            self.pending = {name: entry for name, entry in self.pending.items() if height - entry < self.board.life}
             self.recent = {name: at for name, at in self.recent.items() if height - at <= TARGETS}
 
     def look(self):
         """A line that changes nothing."""
         rng = self.rng
-        target = rng.choice([0, 1, 2, 3, 24, 25, 26, TOP, rng.randint(1, 25)])
+        target = rng.choice([*self.board.targets, TOP, rng.randint(1, self.board.life)])
         self.add(*rng.choice([["estimate", target]] * 4 + [["estimates"], ["sum"], ["write", 0]]))
 
     def round_trip(self):

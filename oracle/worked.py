@@ -5,7 +5,7 @@ They are written as in edges.py. No line prints a count: memory laid by hand, in
 import crowd
 import incident
 from edges import FRESH, FRESH_FILE, LEND, all_targets, joined, laid, rate_cases, script
-from files import FRESH_LENGTH, adler, file, pending_record, recent_record, u32
+from files import NARROW, adler, file, pending_record, recent_record, u32
 
 NONE = " ".join("-" * 25)
 THOUSAND = " ".join(["1000"] * 25)
@@ -92,7 +92,7 @@ def waits():
 def files():
     """Files that are read or refused."""
     fresh, through = file(), file(pending=[pending_record("01", 33, 100, 25)])
-    assert len(fresh) == FRESH_LENGTH and fresh.startswith(bytes.fromhex(FRESH_FILE))
+    assert len(fresh) == NARROW.fresh_length and fresh.startswith(bytes.fromhex(FRESH_FILE))
     read = [
         (fresh[:7], "10"),
         (bytes(8), "8"),
@@ -120,7 +120,7 @@ def files():
 
 def cases():
     """Each case's title and its text with arrows."""
-    yield next(rate_cases())
+    yield next(rate_cases(NARROW))
     yield from estimates()
     yield from waits()
     yield from files()
