@@ -54,7 +54,7 @@ extern "C" {
 #endif
 
 enum {
-    IZR_VERSION = 1,
+    IZR_VERSION = 2,
     IZR_COUNTS = 3550,
     IZR_PENDING_SIZE = 44,
     IZR_RECENT_SIZE = 36,
@@ -63,6 +63,10 @@ enum {
     IZR_STATE_WORDS = 4,
     IZR_ID_SIZE = 32,
     IZR_WIDEST_GAP = 4096,
+    /* The lowest rate that a transaction may enter with, in satoshi per kvB. */
+    IZR_FLOOR = 1000,
+    /* What izr_bucket_index_for_rate answers below it: the first number that is no bucket's. */
+    IZR_NO_BUCKET = 142,
     IZR_MOST_TARGET = 25,
     /* The length of a history is this, plus 4 with a last height, plus IZR_PENDING_SIZE and IZR_RECENT_SIZE for each record. */
     IZR_HISTORY_SIZE = 57961
@@ -89,7 +93,8 @@ enum {
     IZR_UNKNOWN_VERSION = 9,
     IZR_CORRUPT = 10,
     IZR_NO_ROOM = 11,
-    IZR_SHORT_OUTPUT = 12
+    IZR_SHORT_OUTPUT = 12,
+    IZR_BELOW_FLOOR = 16
 };
 
 /* The version of this interface that the library has. */
@@ -109,6 +114,7 @@ uint32_t izr_new(double *confirmed, size_t confirmed_len, double *resolved, size
  *
  *   IZR_DONE
  *   IZR_DAMAGED
+ *   IZR_BELOW_FLOOR      the rate is below IZR_FLOOR
  *   IZR_ALREADY_PENDING  the id is pending
  *   IZR_PENDING_FULL     the pending table has no unused place
  */
@@ -153,7 +159,7 @@ uint32_t izr_block_connected(uint64_t *state, size_t state_len, double *confirme
 uint32_t izr_estimate(const uint64_t *state, size_t state_len, const double *confirmed, size_t confirmed_len, const double *resolved,
                       size_t resolved_len, uint32_t target, uint64_t *carried, size_t carried_len);
 
-/* The bucket, from 0 to 141, that a rate belongs to, on either board. It answers the bucket's number. */
+/* The bucket, from 0 to 141, that a rate belongs to, on either board: it answers the bucket's number, or IZR_NO_BUCKET for a rate below IZR_FLOOR. */
 uint64_t izr_bucket_index_for_rate(uint64_t rate);
 
 /*

@@ -46,12 +46,59 @@ def laid(*parts, **more):
 
 
 def rate_cases(_board):
-    edges = {0: 0, 999: 0, 1_049: 0, 1_050: 1, 1_101: 1, 1_102: 2, 962_804: 140, 962_805: 141, 2**64 - 1: 141}
+    edges = {0: "none", 999: "none", 1_000: 0, 1_049: 0, 1_050: 1, 1_101: 1, 1_102: 2, 962_804: 140, 962_805: 141, 2**64 - 1: 141}
     yield "rates", joined([LEND] + [f"bucket {rate} -> {bucket}" for rate, bucket in edges.items()])
     around = {}
     for bucket, rate in enumerate(RATES):
-        around.update({rate - 1: max(0, bucket - 1), rate: bucket, rate + 1: bucket})
+        around.update({rate - 1: bucket - 1 if bucket else "none", rate: bucket, rate + 1: bucket})
     yield "every rate and its neighbours", joined([LEND] + [f"bucket {rate} -> {bucket}" for rate, bucket in around.items()])
+
+
+def floor_cases(board):
+    """Rates below 1,000 (request L9): no bucket, and 16 after 1 and before 2 and 3."""
+    yield "below the floor", f"""
+        lend 88 72 3550 3550
+        enter aa 999 1 -> 16
+        enter aa 0 1 -> 16
+        leave aa -> 4
+        enter aa 1000 1 -> 0
+        enter aa 999 1 -> 16
+        enter aa 1000 1 -> 2
+        enter bb 1049 1 -> 0
+        enter cc 999 1 -> 16
+        enter aa 0 1 -> 16
+        enter cc 1000 1 -> 3
+        sum -> any
+        lend 88 72 3550 3550
+        state - 2 0
+        byte pending 0 {(pending_record("aa", 0, 1, 0) + pending_record("bb", 0, 1, 0)).hex()}
+        sum -> same
+        byte pending 32 8e
+        enter cc 999 1 -> 1
+        enter aa 0 1 -> 1
+        lend 0 0 0 0
+        enter aa 999 1 -> 16
+        enter aa 1000 1 -> 3"""
+
+    two = [recent_record("aa", 101), recent_record("bb", 101)]
+    yield "a flood below the floor counts nowhere", f"""
+        {FRESH}
+        enter aa 1000 100 -> 0
+        enter bb 1000 100 -> 0
+        {joined(f"enter {at:02x} {at * 33} 100 -> 16" for at in range(31))}
+        block 101 aa bb -> 0
+        estimate 1 -> rate 1000
+        sum -> any
+        {laid(101, recent=two, confirmed=all_targets(0, 2 * board.decay), resolved=all_targets(0, 2 * board.decay))}"""
+
+    low = [pending_record("aa", 0, 100, 0)]
+    yield "a record of bucket 0 is read, whatever rate it came from", f"""
+        {LEND}
+        read {file(last=100, pending=low, board=board).hex()} -> 0
+        enter aa 999 100 -> 16
+        block 101 aa -> 0
+        sum -> any
+        {laid(101, recent=two[:1], confirmed=all_targets(0, board.decay), resolved=all_targets(0, board.decay))}"""
 
 
 def worked_cases(board):
@@ -275,7 +322,7 @@ def count_cases(board):
                 estimate 0 -> {judged}
                 block 1 -> {judged}
                 write 58000 -> {judged}
-                enter aa 1 1 -> 0
+                enter aa 1000 1 -> 0
                 leave aa -> 0
                 sum -> any"""
 
@@ -283,21 +330,21 @@ def count_cases(board):
 def capacity_cases(_board):
     yield "pending full", """
         lend 88 0 3550 3550
-        enter aa 1 1 -> 0
-        enter bb 1 1 -> 0
-        enter cc 1 1 -> 3
-        enter aa 1 1 -> 2
+        enter aa 1000 1 -> 0
+        enter bb 1000 1 -> 0
+        enter cc 1000 1 -> 3
+        enter aa 1000 1 -> 2
         leave cc -> 4
         leave aa -> 0
-        enter cc 1 1 -> 0
+        enter cc 1000 1 -> 0
         sum -> any"""
 
     yield "confirmed full, each listing counted", """
         lend 88 36 3550 3550
-        enter aa 1 1 -> 0
+        enter aa 1000 1 -> 0
         block 2 aa aa -> 7
         block 2 aa bb bb -> 0
-        enter aa 1 1 -> 0
+        enter aa 1000 1 -> 0
         block 2 aa -> 7
         sum -> any
         block 28 -> 0
@@ -319,7 +366,7 @@ def capacity_cases(_board):
         yield f"counts too short: {lent}", f"""
             lend {lent}
             {joined(f"{call} -> 1" for call in calls)}
-            enter aa 1 1 -> 0
+            enter aa 1000 1 -> 0
             leave aa -> 0
             leave aa -> 4
             bucket 5000 -> 33
@@ -333,11 +380,11 @@ def large_cases(board):
         lend {pending_bytes} 36 3550 3550
         read {full.hex()} -> 0
         sum -> any
-        enter ffff 1 1 -> 3
-        enter 0000 1 1 -> 2
+        enter ffff 1000 1 -> 3
+        enter 0000 1000 1 -> 2
         leave 0007 -> 0
-        enter ffff 1 1 -> 0
-        enter fffe 1 1 -> 3
+        enter ffff 1000 1 -> 0
+        enter fffe 1000 1 -> 3
         block 5000 0008 -> 0
         sum -> any
         write 600000 -> any
@@ -348,7 +395,7 @@ def large_cases(board):
     yield f"{recent:,} confirmed", f"""
         lend 44 {recent_bytes} 3550 3550
         read {many.hex()} -> 0
-        enter 0011 1 1 -> 0
+        enter 0011 1000 1 -> 0
         block 40 0011 -> 7
         block 40 -> 0
         block 40 0011 -> 0
@@ -357,7 +404,7 @@ def large_cases(board):
     ids = b"".join(name(f"{at:04x}") for at in range(5_000)).hex()
     yield "5,000 ids in one list", f"""
         {FRESH}
-        enter 0102 1 1 -> 0
+        enter 0102 1000 1 -> 0
         blockraw 2 {ids} -> 0
         sum -> any
         blockraw 3 {ids}00 -> 5"""
@@ -389,7 +436,7 @@ def zero_row_cases(board):
 
 def scripts(board=NARROW):
     """Each case's title, the bytes of its script, and for each printed line the answer, `any`, or the number of the line that it repeats."""
-    makers = rate_cases, worked_cases, expiry_cases, gap_cases, estimate_cases, file_cases, record_cases, count_cases, capacity_cases, large_cases
+    makers = rate_cases, floor_cases, worked_cases, expiry_cases, gap_cases, estimate_cases, file_cases, record_cases, count_cases, capacity_cases, large_cases
     first = "" if board is NARROW else f"board {board.word}\n"
     for maker in (*makers, zero_row_cases):
         for title, text in maker(board):

@@ -3,7 +3,7 @@
 import random
 import struct
 
-from files import BUCKETS, COUNTS, NARROW, PENDING, RECENT, TARGETS, WIDE, bits, file, place, u32
+from files import BUCKETS, COUNTS, NARROW, PENDING, RATES, RECENT, TARGETS, WIDE, bits, file, place, u32
 from histories import HIGHEST, LEAST, MINUS_ZERO, any_file, any_pattern, damaged_file, near_threshold
 from walk import TOP, Walk, any_height, any_rate
 
@@ -70,8 +70,7 @@ def expiry(rng, board):
     for _ in range(12):
         name = rng.choice(walk.pool)
         entry = walk.bounded(walk.now() + rng.choice([-life - 1, -life, 1 - life, -1, 0, 0, 0, 1, 2]))
-        walk.add("enter", name, rng.choice(walk.rates), entry)
-        walk.pending.setdefault(name, entry)
+        walk.enter_as(name, rng.choice(walk.rates), entry)
         goal = walk.bounded(max(walk.now(), entry) + rng.choice([1, 2, *range(life - 1, life + 3), *board.inner]))
         if rng.random() < 0.5:
             stop = rng.randint(walk.now(), goal)
@@ -188,7 +187,7 @@ def exact_lengths(rng, board):
             walk.add("write", length)
         walk.add("again")
         walk.add("sum")
-        walk.add("enter", name, any_rate(rng), 100)
+        walk.add("enter", name, max(RATES[0], any_rate(rng)), 100)
         pending += 1
         if rng.random() < 0.5:
             last = 100 + at
@@ -318,6 +317,22 @@ def rates(rng, board):
     return walk.text()
 
 
+def about_the_floor(rng, board):
+    """Entries at and about the floor (request L9): of ids that are pending, into tables that are full, into damaged memory."""
+    walk = Walk(rng, board, pool=6)
+    walk.rates = [0, 1, 998, 999, 999, 1_000, 1_000, 1_001, 1_049, 1_050, 2**63]
+    walk.lend(PENDING * rng.randint(0, 6), RECENT * 20)
+    for _ in range(8):
+        walk.steps(rng.randint(1, 9))
+        if rng.random() < 0.2:
+            walk.add("state", walk.now(), rng.choice([0, 1, len(walk.pending), 7]), 0)
+        for _ in range(3):
+            walk.enter_as(rng.choice(walk.pool), rng.choice(walk.rates), walk.now())
+            walk.add("sum")
+        walk.add("bucket", rng.choice(walk.rates))
+    return walk.text()
+
+
 def scribbled(rng, board):
     """A sound script with one line changed at a letter, so that it may not fit."""
     walk = Walk(rng, board, pool=5)
@@ -377,6 +392,7 @@ SHARES = {
     wide_gaps: 4,
     damaged_memory: 60,
     rates: 14,
+    about_the_floor: 20,
     scribbled: 10,
     large: 2,
 }

@@ -7,7 +7,7 @@ import re
 import struct
 import sys
 
-from rules import DAMAGED, NARROW, WIDE, Damaged, Memory, Refused, Run, bucket_of
+from rules import DAMAGED, NARROW, WIDE, Damaged, Memory, Refused, Run
 
 BOARDS = {b"narrow": NARROW, b"wide": WIDE}
 MOST_LENT = {NARROW: (440_100, 720_100, 3_600, 3_600), WIDE: (44_100, 72_100, 3_600, 3_600)}
@@ -135,7 +135,7 @@ class Script:
         b"blockraw": (Run.block, [narrow, contents_or_none]),
         b"estimate": (Run.estimate, [narrow]),
         b"estimates": (Run.estimates, []),
-        b"bucket": (lambda run, rate: bucket_of(rate), [lambda word: decimal(word, 2**64 - 1)]),
+        b"bucket": (Run.bucket, [lambda word: decimal(word, 2**64 - 1)]),
         b"write": (Run.write, [lambda word: decimal(word, 1_400_000)]),
         b"read": (Run.read, [contents_or_none]),
         b"again": (Run.again, []),

@@ -28,11 +28,13 @@ FIT = [
     ("count resolved 3599 fff0000000000001", None),
     ("sum", "any"),
     ("enter 00 018446744073709551615 4294967295", "0"),
-    ("enter " + "ff" * 32 + " " + "0" * 70 + "1 00001", "0"),
+    ("enter " + "ff" * 32 + " " + "0" * 70 + "1000 00001", "0"),
+    ("enter aa 0 0", "16"),
     ("leave 0000", "0"),
     ("block 4294967295" + " aa" * 4_096, "0"),
     ("estimate 4294967295", "any"),
     ("bucket 00018446744073709551615", "141"),
+    ("bucket 000", "none"),
     ("write 1400000", "any"),
     ("again", "0"),
     ("blockraw 1 -", "0"),
@@ -49,7 +51,7 @@ FIT = [
 def scripts():
     """Each title, the bytes, and the answers."""
     for line in UNFIT:
-        text = f"lend 440 360 3550 3550\nenter aa 1 1\n# passed over \t\n\n{line}\nsum\n"
+        text = f"lend 440 360 3550 3550\nenter aa 1000 1\n# passed over \t\n\n{line}\nsum\n"
         yield f"unfit: {line[:40]!r}", text.encode(), ["0", "bad line 5"]
     yield "lines that fit only just", "".join(f"{line}\n" for line, _ in FIT).encode(), [answer for _, answer in FIT if answer]
     yield "an empty script", b"", []

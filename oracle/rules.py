@@ -1,4 +1,4 @@
-"""Document 01 in Python, and document 02's slower horizon (L10), written from their words and not from the Rust. Python's floats are binary64, so
+"""Document 01 in Python, and document 02's slower horizon (L10) and floor (L9), written from their words and not from the Rust. Python's floats are binary64, so
 counts agree with the Rust's bit for bit or not at all. The Rust is the narrow board alone."""
 
 import math
@@ -16,6 +16,7 @@ MAGIC = b"BRSEFEES"
 # Answer numbers.
 DONE, DAMAGED, ALREADY_PENDING, PENDING_FULL, ABSENT, BAD_LIST, GAP_TOO_WIDE, CONFIRMED_FULL = range(8)
 BAD_MAGIC, UNKNOWN_VERSION, CORRUPT, NO_ROOM, SHORT_OUTPUT = range(8, 13)
+BELOW_FLOOR = 16
 
 
 class Board(NamedTuple):
@@ -50,8 +51,8 @@ RATES = ladder()
 
 
 def bucket_of(rate):
-    """The last bucket whose rate is not above this one, or bucket 0."""
-    return max((bucket for bucket, lowest in enumerate(RATES) if lowest <= rate), default=0)
+    """The last bucket whose rate is not above this one; below the floor there is none."""
+    return max((bucket for bucket, lowest in enumerate(RATES) if lowest <= rate), default=None)
 
 
 class Damaged(Exception):
@@ -255,11 +256,14 @@ class Run:
 
     def enter(self, name, rate, height):
         pending = self.memory.pending_records()
+        bucket = bucket_of(rate)
+        if bucket is None:
+            raise Refused(BELOW_FLOOR)
         if name in pending:
             raise Refused(ALREADY_PENDING)
         if len(pending) == self.memory.pending_capacity():
             raise Refused(PENDING_FULL)
-        pending[name] = [bucket_of(rate), height, 0]
+        pending[name] = [bucket, height, 0]
         self.memory.lay_pending(pending)
         return DONE
 
@@ -308,6 +312,10 @@ class Run:
         width = self.memory.board.width
         rates = [self.rate(width * column) for column in range(1, COLUMNS + 1)]
         return " ".join("-" if rate is None else str(rate) for rate in rates)
+
+    def bucket(self, rate):
+        bucket = bucket_of(rate)
+        return "none" if bucket is None else bucket
 
     def write(self, length):
         memory = self.memory

@@ -67,8 +67,13 @@ class Walk:
         far = 30 * self.board.width
         height = self.now() + rng.choice([0, 0, 0, 0, 1, -1, -rng.randrange(far), rng.randrange(far)])
         height = self.bounded(height) if self.chance(0.97) else any_height(rng)
-        self.add("enter", name, rng.choice(self.rates) if self.chance(0.9) else any_rate(rng), height)
-        self.pending.setdefault(name, height)
+        self.enter_as(name, rng.choice(self.rates) if self.chance(0.9) else any_rate(rng), height)
+
+    def enter_as(self, name, rate, height):
+        """An entry; below the floor it is refused."""
+        self.add("enter", name, rate, height)
+        if rate >= RATES[0]:
+            self.pending.setdefault(name, height)
 
     def leave(self):
         known = self.pending and self.chance(0.7)

@@ -131,7 +131,7 @@ def damage_cases():
         yield f"pending: {title}", f"""
             {memory(100, pending=two)}
             leave cc -> 4
-            enter bb 1 1 -> 2
+            enter bb 1000 1 -> 2
             {line}
             enter cc 1000 100 -> 1
             enter aa 1000 100 -> 1

@@ -29,6 +29,7 @@ static void no_tables(void)
     size_t len = on->history_size + 4;
     expect(on->new(confirmed, IZR_COUNTS, resolved, IZR_COUNTS, NULL, 0, NULL, 0, state, IZR_STATE_WORDS), IZR_DONE, "a start without tables");
     expect(on->tx_entered(state, IZR_STATE_WORDS, NULL, 0, id, IZR_ID_SIZE, 5000, 100), IZR_PENDING_FULL, "an entry without a table");
+    expect(on->tx_entered(state, IZR_STATE_WORDS, NULL, 0, id, IZR_ID_SIZE, 999, 100), IZR_BELOW_FLOOR, "an entry below the floor without a table");
     expect(on->tx_left(state, IZR_STATE_WORDS, NULL, 0, id, IZR_ID_SIZE), IZR_ABSENT, "a leave without a table");
     expect(on->block_connected(state, IZR_STATE_WORDS, confirmed, IZR_COUNTS, resolved, IZR_COUNTS, NULL, 0, NULL, 0, id, IZR_ID_SIZE, 101), IZR_DONE,
            "a block without tables");

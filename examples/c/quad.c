@@ -112,7 +112,11 @@ int main(void)
     expect(enter(&first, ids[1], 5000, 100), IZR_DONE, "the second enters");
     expect(enter(&first, ids[2], 1000, 100), IZR_DONE, "the third enters");
     expect(enter(&first, ids[3], 1000, 100), IZR_DONE, "the fourth enters");
-    expect(enter(&first, ids[3], 1000, 100), IZR_ALREADY_PENDING, "the fourth enters again");
+    expect(enter(&first, ids[3], IZR_FLOOR, 100), IZR_ALREADY_PENDING, "the fourth enters again");
+    expect(enter(&first, ids[3], IZR_FLOOR - 1, 100), IZR_BELOW_FLOOR, "the fourth enters again, below the floor");
+    expect(enter(&first, ids[4], 0, 100), IZR_BELOW_FLOOR, "the fifth enters below the floor");
+    check(izr_bucket_index_for_rate(IZR_FLOOR) == 0, "the floor's bucket");
+    check(izr_bucket_index_for_rate(IZR_FLOOR - 1) == IZR_NO_BUCKET, "no bucket below the floor");
     expect(enter(&first, ids[4], 2000, 100), IZR_DONE, "the fifth enters");
     expect(leave(&first, ids[4]), IZR_DONE, "the fifth leaves");
     expect(leave(&first, ids[4]), IZR_ABSENT, "the fifth leaves again");

@@ -10,6 +10,8 @@ use bitcoin_rs_primitives::{Hash256, Txid};
 
 const RUST_PENDING: usize = 10_000;
 const WIDEST_GAP: u32 = 4_096;
+/// Below it the Rust has bucket 0, and document 02 (L9) no bucket.
+const FLOOR: u64 = 1_000;
 const ID: usize = 32;
 const UNWRITTEN: u8 = 0xaa;
 
@@ -102,6 +104,7 @@ impl Session<'_> {
             Call::Block { height, ids } => self.block(&ids, height),
             Call::Estimate(target) => self.estimate(target),
             Call::Estimates => self.estimates(),
+            Call::Bucket(rate) if rate < FLOOR => own("none"),
             Call::Bucket(rate) => rust(FeeEstimator::new().bucket_of(rate)),
             Call::Write(len) => self.write(len, written),
             Call::Read(bytes) => self.read(&bytes),
@@ -143,6 +146,10 @@ impl Session<'_> {
 
     fn enter(&mut self, id: Txid, rate: u64, height: u32) -> Line {
         let Some((mut estimator, held)) = self.estimator(Part::Pending) else { return own(1) };
+        if rate < FLOOR {
+            self.keep(estimator, held);
+            return own(16);
+        }
         let (known, before) = (estimator.is_pending(&id), estimator.pending_len());
         let capacity = self.memory.pending_capacity();
         if !known && before == capacity && capacity < RUST_PENDING {

@@ -1,4 +1,4 @@
-//! What a call takes and answers: ids, rates, and the refusals of document 01 by their numbers.
+//! What a call takes and answers: ids, rates, and the refusals of documents 01 and 02 by their numbers.
 
 use std::error::Error;
 use std::fmt;
@@ -55,6 +55,8 @@ pub enum HistoryReject {
 pub enum Refusal {
     /// The memory is not an estimator's. No method of an [`Estimator`](crate::Estimator) leads there.
     Damaged,
+    /// The rate is below [`FLOOR`](crate::FLOOR).
+    BelowFloor,
     /// The id is pending.
     AlreadyPending,
     /// 10,000 transactions are pending.
@@ -80,11 +82,12 @@ pub enum Refusal {
 }
 
 impl Refusal {
-    /// Document 01's number of the refusal.
+    /// The number of the refusal, by documents 01 and 02.
     #[must_use]
     pub const fn number(self) -> u32 {
         match self {
             Self::Damaged => 1,
+            Self::BelowFloor => 16,
             Self::AlreadyPending => 2,
             Self::PendingFull => 3,
             Self::Absent => 4,
@@ -116,7 +119,8 @@ pub(crate) fn answered(number: u32, carried: u64) -> Result<(), Refusal> {
         10 => Refusal::Corrupt,
         11 => Refusal::NoRoom,
         12 => Refusal::ShortOutput(usize::try_from(carried).expect("a length is a usize")),
-        _ => unreachable!("the library answers 0 to 12"),
+        16 => Refusal::BelowFloor,
+        _ => unreachable!("the library answers 0 to 12, and 16"),
     })
 }
 
@@ -124,6 +128,7 @@ impl fmt::Display for Refusal {
     fn fmt(&self, f: &mut fmt::Formatter<'_>) -> fmt::Result {
         match self {
             Self::Damaged => f.write_str("the memory is not an estimator's"),
+            Self::BelowFloor => f.write_str("the rate is below the lowest that may enter"),
             Self::AlreadyPending => f.write_str("the transaction is already pending"),
             Self::PendingFull => f.write_str("too many transactions are pending"),
             Self::Absent => f.write_str("the transaction is not pending"),

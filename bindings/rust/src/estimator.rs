@@ -52,7 +52,8 @@ impl<B: Board> Estimator<B> {
         self.recent.truncate(self.confirmed_len() * RECENT_SIZE);
     }
 
-    /// A transaction enters the mempool at a height. One that is pending already is ignored, and so is one that comes when 10,000 are.
+    /// A transaction enters the mempool at a height. One below [`FLOOR`](crate::FLOOR) is ignored (the original counts it with those at 1,000), and so is one that is
+    /// pending already, or that comes when 10,000 are.
     pub fn tx_entered(&mut self, txid: Txid, fee_rate_sat_per_kvb: u64, height: u32) {
         let _ignored = self.try_tx_entered(txid, fee_rate_sat_per_kvb, height);
     }
@@ -60,7 +61,7 @@ impl<B: Board> Estimator<B> {
     /// [`tx_entered`](Self::tx_entered), with its answer.
     ///
     /// # Errors
-    /// [`AlreadyPending`](Refusal::AlreadyPending), [`PendingFull`](Refusal::PendingFull).
+    /// [`BelowFloor`](Refusal::BelowFloor), [`AlreadyPending`](Refusal::AlreadyPending), [`PendingFull`](Refusal::PendingFull).
     pub fn try_tx_entered(&mut self, txid: Txid, fee_rate_sat_per_kvb: u64, height: u32) -> Result<(), Refusal> {
         let room = (self.pending_len() + 1).min(MOST_PENDING);
         self.pending.resize(room * PENDING_SIZE, 0);

@@ -1,6 +1,6 @@
-//! A bitcoin fee estimator whose every answer is proved, to be put where gosuda/bitcoin-rs's module `fee_estimator` was: the same methods, the same
-//! estimates and the same history files, bit for bit. What is proved is the library below, whose functions `include/izrughem.h` describes; this crate owns
-//! the memory that the library is lent, and calls it.
+//! A bitcoin fee estimator whose every answer is proved, to be put where gosuda/bitcoin-rs's module `fee_estimator` was: the same methods and, for entries at or
+//! above [`FLOOR`], the same estimates and the same history files, bit for bit. What is proved is the library below, whose functions `include/izrughem.h`
+//! describes; this crate owns the memory that the library is lent, and calls it.
 //!
 //! ```
 //! use izrughem::{FeeEstimator, Txid};
@@ -21,8 +21,9 @@
 //! ```
 //!
 //! Each method has a neighbour, `try_..`, that tells why it did nothing, where it did nothing. An entry of a pending transaction or beyond 10,000, and the leave of
-//! one that is not pending, are ignored by the original too; a block that is refused is one that the original takes
-//! ([`try_block_connected`](FeeEstimator::try_block_connected)). So a node that must not lose a block looks at that answer:
+//! one that is not pending, are ignored by the original too. An entry below [`FLOOR`] the original counts with those at 1,000, whose success it drags down; here
+//! it is refused. A block that is refused is one that the original takes ([`try_block_connected`](FeeEstimator::try_block_connected)). So a node that must not
+//! lose a block looks at that answer:
 //!
 //! ```
 //! use izrughem::{FeeEstimator, Refusal, Txid};
@@ -31,6 +32,7 @@
 //! let id = Txid([7; 32]);
 //! assert_eq!(estimator.try_tx_entered(id, 2_000, 100), Ok(()));
 //! assert_eq!(estimator.try_tx_entered(id, 2_000, 100), Err(Refusal::AlreadyPending));
+//! assert_eq!(estimator.try_tx_entered(id, 999, 100), Err(Refusal::BelowFloor));
 //! assert_eq!(estimator.try_tx_left(&id), Ok(()));
 //! assert_eq!(estimator.try_tx_left(&id), Err(Refusal::Absent));
 //! if let Err(refusal) = estimator.try_block_connected(&[id], 101) {
@@ -87,8 +89,13 @@ pub use estimator::Estimator;
 /// The widest step from one height to the next that one call of the library makes.
 pub const WIDEST_GAP: u32 = 4_096;
 
+/// The lowest rate, in satoshi per kvB, that a transaction may enter with.
+pub const FLOOR: u64 = 1_000;
+
 /// The version of the library's interface that this crate is for: `IZR_VERSION` of `include/izrughem.h`.
-const VERSION: u32 = 1;
+const VERSION: u32 = 2;
+/// What the library answers for a rate that has no bucket: `IZR_NO_BUCKET`.
+const NO_BUCKET: u64 = 142;
 /// 142 buckets of 25 columns.
 const COUNTS: usize = 3_550;
 /// The bytes of a pending record, and how many there may be.
@@ -117,8 +124,9 @@ fn expect_version(library: u32) {
     );
 }
 
-/// The bucket, from 0 to 141, that a rate in satoshi per kvB belongs to.
+/// The bucket, from 0 to 141, that a rate in satoshi per kvB belongs to. Below [`FLOOR`] there is none.
 #[must_use]
-pub fn bucket_index_for_rate(fee_rate_sat_per_kvb: u64) -> usize {
-    usize::try_from(raw::bucket_index_for_rate(fee_rate_sat_per_kvb)).expect("a bucket is below 142")
+pub fn bucket_index_for_rate(fee_rate_sat_per_kvb: u64) -> Option<usize> {
+    let bucket = raw::bucket_index_for_rate(fee_rate_sat_per_kvb);
+    (bucket != NO_BUCKET).then(|| usize::try_from(bucket).expect("a bucket is below 142"))
 }

@@ -5,11 +5,12 @@
 mod each_board;
 
 use izrughem::{
-    Base, Board, Estimator, FeeEstimator, HistoryReject, Refusal, Txid, WIDEST_GAP, Wide, WideFeeEstimator, bucket_index_for_rate,
+    Base, Board, Estimator, FLOOR, FeeEstimator, HistoryReject, Refusal, Txid, WIDEST_GAP, Wide, WideFeeEstimator, bucket_index_for_rate,
 };
 
 on_each_board! {
     refused_calls_change_nothing,
+    an_entry_below_the_floor_is_refused_before_all_else_is_looked_at,
     a_longer_output_is_written_at_its_start,
     a_written_history_is_read,
     a_gap_of_any_width_is_taken,
@@ -58,6 +59,28 @@ fn refused_calls_change_nothing<B: Board>() {
     assert_eq!(quad.try_to_history_bytes(&mut short), Err(Refusal::ShortOutput(before.len())));
     assert!(short.iter().all(|byte| *byte == 7));
     assert_eq!(quad.to_history_bytes(), before);
+}
+
+fn an_entry_below_the_floor_is_refused_before_all_else_is_looked_at<B: Board>() {
+    let mut estimator = Estimator::<B>::new();
+    assert_eq!(estimator.try_tx_entered(id(1), FLOOR - 1, 100), Err(Refusal::BelowFloor));
+    assert_eq!(estimator.try_tx_entered(id(1), 0, 100), Err(Refusal::BelowFloor));
+    assert_eq!(estimator.pending_len(), 0);
+    assert_eq!(estimator.try_tx_entered(id(1), FLOOR, 100), Ok(()));
+    let before = estimator.to_history_bytes();
+    // An id that is pending gets the same answer, and so does a table that is full.
+    assert_eq!(estimator.try_tx_entered(id(1), FLOOR - 1, 100), Err(Refusal::BelowFloor));
+    assert_eq!(estimator.try_tx_entered(id(1), FLOOR, 100), Err(Refusal::AlreadyPending));
+    assert_eq!(estimator.to_history_bytes(), before);
+    for number in 1..10_000_u32 {
+        let mut other = [2; 32];
+        other[..4].copy_from_slice(&number.to_be_bytes());
+        assert_eq!(estimator.try_tx_entered(Txid(other), FLOOR, 100), Ok(()));
+    }
+    assert_eq!(estimator.try_tx_entered(id(3), FLOOR, 100), Err(Refusal::PendingFull));
+    assert_eq!(estimator.try_tx_entered(id(3), FLOOR - 1, 100), Err(Refusal::BelowFloor));
+    // What is ignored is counted nowhere: bucket 0 has those at 1,000 alone.
+    assert_eq!(estimator.pending_len(), 10_000);
 }
 
 fn a_longer_output_is_written_at_its_start<B: Board>() {
@@ -152,15 +175,19 @@ fn histories_are_refused_by_their_bytes<B: Board>() {
 
 #[test]
 fn buckets_of_rates() {
-    let edges = [(0, 0), (999, 0), (1_049, 0), (1_050, 1), (1_101, 1), (1_102, 2), (962_804, 140), (962_805, 141), (u64::MAX, 141)];
+    for rate in [0, 1, 999] {
+        assert_eq!(bucket_index_for_rate(rate), None, "{rate}");
+    }
+    let edges = [(1_000, 0), (1_049, 0), (1_050, 1), (1_101, 1), (1_102, 2), (962_804, 140), (962_805, 141), (u64::MAX, 141)];
     for (rate, bucket) in edges {
-        assert_eq!(bucket_index_for_rate(rate), bucket, "{rate}");
+        assert_eq!(bucket_index_for_rate(rate), Some(bucket), "{rate}");
     }
 }
 
 #[test]
 fn refusals_have_their_numbers() {
     assert_eq!(Refusal::GapTooWide.number(), 6);
+    assert_eq!(Refusal::BelowFloor.number(), 16);
     assert_eq!(Refusal::ShortOutput(3).to_string(), "the output must have 3 bytes");
 }
 

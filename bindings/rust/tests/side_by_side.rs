@@ -1,6 +1,7 @@
-//! The original and this crate, given the same calls, are in the same state after each of them: the same estimates and the same history, bit for bit.
+//! The original and this crate, given the same calls, are in the same state after each of them: the same estimates and the same history, bit for bit. That is said
+//! of entries at or above the floor: one below it is refused here, and the original is not told of it.
 
-use izrughem::{FeeEstimator, HistoryReject, Txid, WIDEST_GAP};
+use izrughem::{FLOOR, FeeEstimator, HistoryReject, Refusal, Txid, WIDEST_GAP};
 use original::Reject;
 
 /// Numbers that look random and are the same in each run (SplitMix64).
@@ -35,6 +36,10 @@ impl Pair {
     }
 
     fn tx_entered(&mut self, id: [u8; 32], rate: u64, height: u32) {
+        if rate < FLOOR {
+            assert_eq!(self.here.try_tx_entered(Txid(id), rate, height), Err(Refusal::BelowFloor));
+            return;
+        }
         self.original.tx_entered(original::id(&id), rate, height);
         self.here.tx_entered(Txid(id), rate, height);
     }
@@ -148,6 +153,22 @@ fn runs_of_all_calls() {
     }
     for seed in 100..110 {
         run(seed, 1_000, 400);
+    }
+}
+
+/// What the floor is for: the original counts what enters below it in bucket 0, and two such entries that are not confirmed take the rate from it.
+#[test]
+fn entries_below_the_floor_weigh_on_the_original_alone() {
+    for (low, original) in [(0, Some(1_000)), (1, Some(1_000)), (2, None), (10, None)] {
+        let mut pair = Pair::new();
+        (1..=20).for_each(|byte| pair.tx_entered([byte; 32], 1_000, 100));
+        for byte in 101..=100 + low {
+            pair.tx_entered([byte; 32], 500, 100);
+            pair.original.tx_entered(original::id(&[byte; 32]), 500, 100);
+        }
+        pair.block_connected(&[1, 2, 3, 4, 5, 6, 7, 8, 9, 10, 11, 12, 13, 14, 15, 16, 17, 18].map(|byte| [byte; 32]), 101);
+        assert_eq!(pair.original.estimate(1).map(original::FeeRate::as_sat_per_kvb), original, "{low}");
+        assert_eq!(pair.here.estimate(1).map(izrughem::FeeRate::as_sat_per_kvb), Some(1_000), "{low}");
     }
 }
 

@@ -1,13 +1,16 @@
 -- The calls of the C ABI, on the board that a horizon names: for each the answer's number and all that is lent, afterwards. They are the calls of rules and
 -- format over a state in words, and the history has the board's own version. Assumes nothing.
+use mathlib.Core.Path.{_≡_}
 use Prim.Native.Nat.{ℕ}
 use mathlib.Core.Bool.{Bool, _&&_, cond}
 use mathlib.Core.List.{List, [], _∷_}
+use mathlib.Core.Option.{Option, none, some}
 use lib.Dec.{leb, eqb}
 use lib.ListN.{length, getD, set}
 use lib.Ieee.{Float}
 use Rattle.kinds.specs.declared.Horizon.{Horizon}
 use Rattle.kinds.specs.Answers.{Answer}
+use Rattle.rules.specs.Ladder.{bucket-for}
 use Rattle.rules.specs.Board.{board-of}
 use Rattle.rules.specs.Memory.{Lent}
 use Rattle.rules.specs.Calls.{Outcome, start-call, enter-call, leave-call, block-call, estimate-call}
@@ -17,7 +20,28 @@ use Rattle.boundary.specs.Words.{holds-state, state-in, put-state, put-i
 
 -- The version of the C ABI. It moves by one where the state's words, a record's bytes, a call's parameters or the answers to them change.
 abbrev pub abi-version : ℕ
-abi-version = 1
+abi-version = 2
+
+-- ---- the bucket of a rate, on either board
+
+-- the first number that is no bucket's
+abbrev pub no-bucket : ℕ
+no-bucket = 142
+
+-- a bucket's number, or that one for none
+abbrev pub bucket-number : Option ℕ → ℕ
+bucket-number none = no-bucket
+bucket-number (some b) = b
+
+-- Bucket lookup.
+unfoldable pub izr-bucket-index-for-rate : ℕ → ℕ
+izr-bucket-index-for-rate rate = bucket-number (bucket-for rate)
+
+-- The number tells the lookup's answer: where two rates have one number, they have one bucket, or both none.
+unfoldable pub LookupPromise : Type 0
+LookupPromise = (x y : ℕ) → izr-bucket-index-for-rate x ≡ izr-bucket-index-for-rate y → bucket-for x ≡ bucket-for y
+
+-- ---- what a caller sees of the other calls
 
 -- all that a caller can see of a call: the number, the state's words, the words for what the answer carries, and the rest of what it lends, an L
 pub record Seen (L : Type 0) : Type 0 where
@@ -46,6 +70,8 @@ carry (v ∷ vs) cs = set cs 0 v
 -- a fresh start or a reading
 unfoldable pub begun : {L : Type 0} → List ℕ → List ℕ → Outcome L → Seen L
 begun ws cs o = seen (o .answer .number) (put-if-done (o .answer .number) (o .state) ws) (carry (o .answer .carries) cs) (o .lent)
+
+-- ---- each of them
 
 -- Fresh start.
 unfoldable pub izr-new : Horizon → List ℕ → Lent → Seen Lent

@@ -1,7 +1,9 @@
 // The bodies of entering and of leaving, over the horizon. Each is what its definition in rules/specs/Calls says, for every input; neither asks anything of
-// its caller. Both judge the table, search it once, and put the record in or take it out where the search has ended.
+// its caller. Both judge the table, search it once, and put the record in or take it out where the search has ended; an enter below the floor ends before it
+// searches.
 use boards::record_size;
 use judge::judge_pending;
+use kinds::BucketIndex;
 use kinds::EnterAnswer;
 use kinds::Entered;
 use kinds::FeeRate;
@@ -11,6 +13,7 @@ use kinds::LeaveAnswer;
 use kinds::Left;
 use kinds::MAX_PENDING_ENTRIES;
 use kinds::State;
+use ladder::bucket_index_for_rate;
 use table::Found;
 use table::capacity;
 use table::find;
@@ -39,6 +42,12 @@ pub fn tx_entered(
             state,
         };
     }
+    let BucketIndex::Bucket(bucket) = bucket_index_for_rate(rate) else {
+        return Entered {
+            answer: EnterAnswer::BelowFloor,
+            state,
+        };
+    };
     let size = record_size(on);
     match find(pending, size, used, id) {
         Found::At(_) => Entered {
@@ -52,7 +61,7 @@ pub fn tx_entered(
                     state,
                 };
             }
-            let bucket = ladder::bucket_index_for_rate(rate) as u32;
+            let bucket = bucket as u32;
             insert_pending(pending, used, at, id, bucket, height, on);
             Entered {
                 answer: EnterAnswer::Done,

@@ -1,6 +1,7 @@
 // THE PUBLIC CALLS, of the base board. Each is what its definition in rules/specs/Calls or format/specs/Calls says, for every input; none asks anything of
 // its caller. The bodies are in `starts`, `entries`, `blocks`, `estimates` and `history`.
 use kinds::Blocks;
+use kinds::BucketIndex;
 use kinds::Connected;
 use kinds::Entered;
 use kinds::Estimated;
@@ -14,8 +15,8 @@ use kinds::Started;
 use kinds::State;
 use kinds::Written;
 ghost use mathlib.Core.Path.{_≡_};
-ghost use Rattle.kinds.specs.Answers.{start-answer, enter-answer, leave-answer, block-answer, estimate-answer, write-answer, read-answer};
-ghost use Rattle.rules.specs.Ladder.{bucket-index};
+ghost use Rattle.kinds.specs.Answers.{start-answer, enter-answer, leave-answer, block-answer, estimate-answer, bucket-answer, write-answer, read-answer};
+ghost use Rattle.rules.specs.Ladder.{bucket-for};
 ghost use Rattle.rules.specs.Board.{base};
 ghost use Rattle.rules.specs.Slices.{before, after};
 ghost use Rattle.rules.specs.Calls.{outcome, start-call, enter-call, leave-call, block-call, estimate-call};
@@ -89,9 +90,9 @@ pub fn estimate(state: State, confirmed: &[f64], resolved: &[f64], target: Block
     estimates::estimate(state, confirmed, resolved, target, Horizon::Base)
 }
 
-// The bucket that a rate belongs to.
-pub fn bucket_index_for_rate(rate: FeeRate) -> usize
-    ensures { λ b. ⌜ b ≡ bucket-index (rate .0) ⌝ }
+// The bucket that a rate belongs to, on either board; below the floor there is none.
+pub fn bucket_index_for_rate(rate: FeeRate) -> BucketIndex
+    ensures { λ b. ⌜ bucket-answer b ≡ bucket-for (rate .0) ⌝ }
 {
     ladder::bucket_index_for_rate(rate)
 }

@@ -1,7 +1,9 @@
-// The bodies of the exported calls, over the horizon: each judges the words that it is given, makes the call on the state that they hold, and tells its
+// The bodies of the exported calls, over the horizon, but for the lookup, which is of no board. Each judges the words that it is given, makes the call on the state that they hold, and tells its
 // outcome in words. Each is what its definition in boundary/specs/Calls says, for every input; none asks anything of its caller. Words that hold no state,
 // an id that is not 32 bytes and a `carried` of no words are Damaged, and nothing is changed.
+use kinds::BUCKET_COUNT;
 use kinds::Blocks;
+use kinds::BucketIndex;
 use kinds::FeeRate;
 use kinds::Height;
 use kinds::Horizon;
@@ -21,7 +23,17 @@ use words::tell_written;
 ghost use mathlib.Core.Path.{_≡_};
 ghost use mathlib.Core.List.{[]};
 ghost use Rattle.rules.specs.Slices.{before, after};
-ghost use Rattle.boundary.specs.Calls.{seen, izr-new, izr-tx-entered, izr-tx-left, izr-block-connected, izr-estimate, izr-to-history-bytes, izr-from-history-bytes};
+ghost use Rattle.boundary.specs.Calls.{izr-bucket-index-for-rate, seen, izr-new, izr-tx-entered, izr-tx-left, izr-block-connected, izr-estimate, izr-to-history-bytes, izr-from-history-bytes};
+
+// The bucket of a rate, or 142 where there is none.
+pub fn bucket_index_for_rate(rate: u64) -> u64
+    ensures { λ r. ⌜ r ≡ izr-bucket-index-for-rate rate ⌝ }
+{
+    match ladder::bucket_index_for_rate(FeeRate(rate)) {
+        BucketIndex::NoBucket => BUCKET_COUNT as u64,
+        BucketIndex::Bucket(b) => b as u64,
+    }
+}
 
 // A fresh start.
 pub fn new(

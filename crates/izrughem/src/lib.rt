@@ -1,14 +1,12 @@
 // THE C ABI: the public calls of either board for C and Rust, on numbers and slices only, a slice passing as a pointer and a length. Each answers document
 // 01's number, and puts what the answer carries, if anything, into `carried`. The state is four lent words (boundary/specs/Words). Each is what its definition
 // in boundary/specs/Calls says, for every input; none asks anything of its caller. The bodies are in `exports`.
-use kinds::FeeRate;
 use kinds::Horizon;
 ghost use mathlib.Core.Path.{_≡_};
 ghost use mathlib.Core.List.{[]};
 ghost use Rattle.kinds.specs.declared.Horizon.{Horizon};
-ghost use Rattle.rules.specs.Ladder.{bucket-index};
 ghost use Rattle.rules.specs.Slices.{before, after};
-ghost use Rattle.boundary.specs.Calls.{abi-version, seen, izr-new, izr-tx-entered, izr-tx-left, izr-block-connected, izr-estimate, izr-to-history-bytes, izr-from-history-bytes};
+ghost use Rattle.boundary.specs.Calls.{abi-version, izr-bucket-index-for-rate, seen, izr-new, izr-tx-entered, izr-tx-left, izr-block-connected, izr-estimate, izr-to-history-bytes, izr-from-history-bytes};
 
 // ---- of no board
 
@@ -17,15 +15,15 @@ ghost use Rattle.boundary.specs.Calls.{abi-version, seen, izr-new, izr-tx-enter
 pub extern "C" fn izr_version() -> u32
     ensures { λ r. ⌜ r ≡ abi-version ⌝ }
 {
-    1
+    2
 }
 
-// The bucket that a rate belongs to, on either board.
+// The bucket that a rate belongs to, on either board, or 142 below the floor, where there is none.
 #[no_mangle]
 pub extern "C" fn izr_bucket_index_for_rate(rate: u64) -> u64
-    ensures { λ r. ⌜ r ≡ bucket-index rate ⌝ }
+    ensures { λ r. ⌜ r ≡ izr-bucket-index-for-rate rate ⌝ }
 {
-    ladder::bucket_index_for_rate(FeeRate(rate)) as u64
+    exports::bucket_index_for_rate(rate)
 }
 
 // ---- the base board: columns of one block, version 1 of the file

@@ -1,4 +1,4 @@
-// The numbers of document 01, under the Rust's names where it has one.
+// The numbers of documents 01 and 02, under the Rust's names where it has one.
 
 // ---- a board
 
@@ -7,6 +7,9 @@ pub const MAX_CONF_TARGET: usize = 25;
 
 // How many buckets there are.
 pub const BUCKET_COUNT: usize = 142;
+
+// The floor: the lowest bucket's rate, below which no transaction is admitted.
+pub const MIN_FEE_RATE_SAT_PER_KVB: u64 = 1000;
 
 // How many counts of each kind there are.
 pub const COUNTS: usize = BUCKET_COUNT * MAX_CONF_TARGET;

@@ -12,9 +12,10 @@ use Rattle.kinds.specs.declared.FeeRate.{FeeRate}
 use Rattle.kinds.specs.declared.Height.{Height}
 use Rattle.kinds.specs.declared.Last.{Last}
 use Rattle.kinds.specs.declared.Last.the-variants.{Nothing, At}
-use Rattle.kinds.specs.Answers.{Answer, done, already-pending, pending-full, absent, bad-list, gap-too-wide, confirmed-full}
+use Rattle.kinds.specs.Answers.{Answer, done, below-floor, already-pending, pending-full, absent, bad-list, gap-too-wide, confirmed-full}
 use Rattle.rules.specs.Lists.{count}
 use Rattle.rules.specs.Ids.{Id, same}
+use Rattle.rules.specs.Ladder.{floor}
 use Rattle.rules.specs.Board.{Board, Pending, Lawful}
 use Rattle.rules.specs.Estimator.{is-pending, admit, block-connected}
 use Rattle.rules.specs.Estimate.{estimate}
@@ -88,9 +89,13 @@ module _ (k : Board) (pos : 0 < k .width) (l : Log) (x : Held) (n : Meant k l x)
   enter-is : (i : Id) (rate : FeeRate) (h : Height) → outcome-of k (enter i rate h) x .answer ≡ foretold k l x (enter i rate h)
   unfolding outcome-of enter-call foretold
   enter-is i rate h =
-      after-sound (sound-pending k (x .state .pending) (x .memory .pending)) (is-pending i rs) _ _ _ table-sound
-      ∙ ap (cond (is-pending i rs) already-pending) (after-test full (refused pending-full (x .state) (x .memory .pending)) (accepted-pending k (x .state) (admit i (rate .0) (h .0) rs) (x .memory .pending)))
-      ∙ ap₂ (λ (w : Bool) (c : ℕ). cond w already-pending (cond (eqb c (pending-capacity k (x .memory .pending))) pending-full done)) (same-waiting i) same-number
+      let low = ltb (rate .0) floor in
+      let next = accepted-pending k (x .state) (admit i (rate .0) (h .0) rs) (x .memory .pending) in
+      let rest = cond full (refused pending-full (x .state) (x .memory .pending)) next in
+      after-sound (sound-pending k (x .state .pending) (x .memory .pending)) low _ _ _ table-sound
+      ∙ ap (cond low below-floor) (after-test (is-pending i rs) (refused already-pending (x .state) (x .memory .pending)) rest)
+      ∙ ap (λ (a : Answer). cond low below-floor (cond (is-pending i rs) already-pending a)) (after-test full (refused pending-full (x .state) (x .memory .pending)) next)
+      ∙ ap₂ (λ (w : Bool) (c : ℕ). cond low below-floor (cond w already-pending (cond (eqb c (pending-capacity k (x .memory .pending))) pending-full done))) (same-waiting i) same-number
 
   leave-is : (i : Id) → outcome-of k (leave i) x .answer ≡ foretold k l x (leave i)
   unfolding outcome-of leave-call foretold

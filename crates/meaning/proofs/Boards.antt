@@ -6,10 +6,12 @@ use Rattle.floats.proofs.Count.{board-factor}
 use Rattle.meaning.specs.Fates.{Promise}
 use Rattle.meaning.specs.Answered.{AnswerPromise, RunPromise, RestatePromise}
 use Rattle.meaning.specs.Success.{WalkPromise, SuccessPromise}
+use Rattle.meaning.specs.Floor.{FloorPromise}
 use Rattle.meaning.proofs.Meaning.{promise, restate-promise}
 use Rattle.meaning.proofs.Sound.{run-promise}
 use Rattle.meaning.proofs.Answered.{answer-promise}
 use Rattle.meaning.proofs.Success.{walk, success-promise}
+use Rattle.meaning.proofs.Floor.{floor-promise}
 
 -- demand 3
 pub meaning : (on : Horizon) → Promise (board-of on)
@@ -34,3 +36,7 @@ walks on = walk (board-of on)
 -- success between none and all
 pub between-none-and-all : (on : Horizon) → SuccessPromise (board-of on)
 between-none-and-all on = success-promise (board-of on) (board-lawful on) (board-factor on)
+
+-- no admission is below the floor
+pub floored : (on : Horizon) → FloorPromise (board-of on)
+floored on = floor-promise (board-of on)

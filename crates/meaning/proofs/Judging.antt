@@ -10,8 +10,9 @@ use borrow.Author.Tests.{ltb-false, eqb-false, not-false}
 use Rattle.kinds.specs.declared.FeeRate.{FeeRate}
 use Rattle.kinds.specs.declared.Height.{Height}
 use Rattle.kinds.specs.declared.State.{State}
-use Rattle.kinds.specs.Answers.{Answer, damaged, already-pending, pending-full, absent, bad-list, gap-too-wide, confirmed-full}
+use Rattle.kinds.specs.Answers.{Answer, damaged, below-floor, already-pending, pending-full, absent, bad-list, gap-too-wide, confirmed-full}
 use Rattle.rules.specs.Ids.{Id}
+use Rattle.rules.specs.Ladder.{floor}
 use Rattle.rules.specs.Board.{Board}
 use Rattle.rules.specs.Estimator.{is-pending, without, admit, block-connected}
 use Rattle.rules.specs.Memory.{Lent, pending-capacity, confirmed-capacity, pending-records, sound-pending, sound, view}
@@ -34,9 +35,10 @@ module _ (k : Board) (s : State) where
   unfolding enter-call
   enter-judged xs i rate h =
       unless damaged refl (not (sound-pending k (s .pending) xs))
-      (λ p. unless already-pending refl (is-pending i (pending-records k (s .pending) xs))
+      (λ p. unless below-floor refl (ltb (rate .0) floor)
+      (λ _. unless already-pending refl (is-pending i (pending-records k (s .pending) xs))
       (λ q. unless pending-full refl (eqb (s .pending) (pending-capacity k xs))
-      (λ r. taken (record { absent = q; place = place (not-false (sound-pending k (s .pending) xs) p) r }))))
+      (λ r. taken (record { absent = q; place = place (not-false (sound-pending k (s .pending) xs) p) r })))))
     where
       place : sound-pending k (s .pending) xs ≡ true → eqb (s .pending) (pending-capacity k xs) ≡ false → length (pending-records k (s .pending) xs) < pending-capacity k xs
       place p r = omega (arith, pending-length k (s .pending) xs, pending-within k (s .pending) xs p, eqb-false (s .pending) (pending-capacity k xs) r)

@@ -10,10 +10,10 @@ use lib.Ieee.{Float}
 use Rattle.kinds.specs.declared.Blocks.{Blocks}
 use Rattle.kinds.specs.declared.Last.{Last}
 use Rattle.kinds.specs.declared.Last.the-variants.{Nothing, At}
-use Rattle.kinds.specs.Answers.{Answer, done, already-pending, pending-full, absent, bad-list, gap-too-wide, confirmed-full}
+use Rattle.kinds.specs.Answers.{Answer, done, below-floor, already-pending, pending-full, absent, bad-list, gap-too-wide, confirmed-full}
 use Rattle.rules.specs.Lists.{any, count}
 use Rattle.rules.specs.Ids.{Id, same}
-use Rattle.rules.specs.Ladder.{buckets}
+use Rattle.rules.specs.Ladder.{buckets, floor}
 use Rattle.rules.specs.Counts.{columns}
 use Rattle.rules.specs.Board.{Board}
 use Rattle.rules.specs.Estimator.{Estimator, fresh, tx-entered, tx-left, block-connected}
@@ -34,10 +34,13 @@ unfoldable pub too-far : Last → ℕ → Bool
 too-far Nothing B = false
 too-far (At g) B = ltb (g .0 + 4096) B
 
--- The answer of the next call. Never 1. Enter: 2 if an admission of the id is pending, else 3 if as many are as the lent table holds. Leave: 4 if none
+-- The answer of the next call. Never 1. Enter: 16 if the rate is below the floor, else 2 if an admission of the id is pending, else 3 if as many are as the lent table holds. Leave: 4 if none
 -- of the id is. Block: 5 by the list's length, else 6 by the last height, else 7 by the confirmed records, as document 01 has it.
 unfoldable pub foretold : Board → Log → Held → Call → Answer
-foretold k l x (enter i rate h) = cond (waiting k l i) already-pending (cond (eqb (count (pends k) (admissions l)) (pending-capacity k (x .memory .pending))) pending-full done)
+foretold k l x (enter i rate h) =
+    cond (ltb (rate .0) floor) below-floor
+    (cond (waiting k l i) already-pending
+    (cond (eqb (count (pends k) (admissions l)) (pending-capacity k (x .memory .pending))) pending-full done))
 foretold k l x (leave i) = cond (waiting k l i) done absent
 foretold k l x (connect ids h) =
     cond (not (eqb (length ids % 32) 0)) bad-list

@@ -5,14 +5,15 @@ use mathlib.Core.Bool.{Bool, true, false, not, _||_, cond, true≢false}
 use mathlib.Core.List.{List}
 use Prim.Native.Nat.{ℕ, _+_, _≤_, _<_}
 use native.Mathlib.Omega.{arith}
-use lib.Dec.{T, eqb}
+use lib.Dec.{T, ltb, eqb}
 use lib.ListN.{length}
 use lib.Pow.{areBytes}
-use borrow.Author.Tests.{eq-eqb, eqb-false}
+use borrow.Author.Tests.{le-ltb, eq-eqb, eqb-false}
 use Rattle.kinds.specs.declared.Last.{Last}
 use Rattle.kinds.specs.declared.State.{State}
-use Rattle.kinds.specs.Answers.{Answer, done, damaged, already-pending, pending-full, absent}
+use Rattle.kinds.specs.Answers.{Answer, done, damaged, below-floor, already-pending, pending-full, absent}
 use Rattle.rules.specs.Ids.{Id, same}
+use Rattle.rules.specs.Ladder.{floor}
 use Rattle.rules.specs.Board.{Board, Pending, Lawful}
 use Rattle.rules.specs.Estimator.{is-pending, without, admit}
 use Rattle.rules.specs.Memory.{pending-capacity, pending-records, lay-pending, sound-pending}
@@ -24,7 +25,7 @@ use Rattle.rules.proofs.Well.{well-newcomer}
 use Rattle.rules.proofs.Sound.{Tabled, tabled, pending-seen, pending-places, pending-over, pending-sound}
 use Rattle.rules.proofs.Placing.{admit-free}
 use Rattle.orders.specs.Orders.{Call, Entry, entering, leaving, in-turn, Holds, Commute, Orders, OrderPromise}
-use Rattle.orders.proofs.Steps.{left-answer, new, with-new, fewer, come, came-answer, one-more, leaves-swap, leave-shows-not, entries-swap, entry-shows-not, left-shows-not, came-shows-not, apart-swap, come-and-gone}
+use Rattle.orders.proofs.Steps.{left-answer, new, with-new, low, fewer, come, came-answer, one-more, leaves-swap, leave-shows-not, entries-swap, entry-shows-not, left-shows-not, came-shows-not, apart-swap, come-and-gone}
 
 module _ (k : Board) (law : Lawful k) (last : Last) (recent : ℕ) (xs : List ℕ) where
   -- the memory that holds rs: xs with them laid, and the state that says how many
@@ -74,26 +75,28 @@ module _ (k : Board) (law : Lawful k) (last : Last) (recent : ℕ) (xs : List �
   unfolding enter-call
   entry-leads x {rs} t =
       let qs = admit (x .id) (x .rate .0) (x .height .0) rs in
-      rw (pending-sound k law xs t, pending-seen k law xs t, pending-places k law xs t, pending-over k law xs t qs) (go (is-pending (x .id) rs) (eqb (length rs) places) refl refl)
+      rw (pending-sound k law xs t, pending-seen k law xs t, pending-places k law xs t, pending-over k law xs t qs) (go (low x) (is-pending (x .id) rs) (eqb (length rs) places) refl refl)
     where
-      go : (b c : Bool) → is-pending (x .id) rs ≡ b → eqb (length rs) places ≡ c
-          → cond b (outcome already-pending (st rs) (tab rs)) (cond c (outcome pending-full (st rs) (tab rs))
-          (outcome done (st (admit (x .id) (x .rate .0) (x .height .0) rs)) (tab (admit (x .id) (x .rate .0) (x .height .0) rs))))
-          ≡ outcome (cond b already-pending (cond c pending-full done)) (st (cond (b || c) rs (with-new x rs))) (tab (cond (b || c) rs (with-new x rs)))
-      go true c e f = refl
-      go false true e f = refl
-      go false false e f =
+      go : (a b c : Bool) → is-pending (x .id) rs ≡ b → eqb (length rs) places ≡ c
+          → cond a (outcome below-floor (st rs) (tab rs)) (cond b (outcome already-pending (st rs) (tab rs)) (cond c (outcome pending-full (st rs) (tab rs))
+          (outcome done (st (admit (x .id) (x .rate .0) (x .height .0) rs)) (tab (admit (x .id) (x .rate .0) (x .height .0) rs)))))
+          ≡ outcome (cond a below-floor (cond b already-pending (cond c pending-full done))) (st (cond (a || (b || c)) rs (with-new x rs))) (tab (cond (a || (b || c)) rs (with-new x rs)))
+      go true b c e f = refl
+      go false true c e f = refl
+      go false false true e f = refl
+      go false false false e f =
           let h = below-places t f in
           stays done (sym (admit-free (x .id) (x .rate .0) (x .height .0) rs (record { absent = e; place = omega arith })))
 
   entry-keeps : (x : Entry) {rs : List Pending} → Tabled k xs rs → Tabled k xs (come places x rs)
   unfolding is-pending
-  entry-keeps x {rs} t = go (is-pending (x .id) rs) (eqb (length rs) places) refl refl
+  entry-keeps x {rs} t = go (low x) (is-pending (x .id) rs) (eqb (length rs) places) refl refl
     where
-      go : (b c : Bool) → is-pending (x .id) rs ≡ b → eqb (length rs) places ≡ c → Tabled k xs (cond (b || c) rs (with-new x rs))
-      go true c e f = t
-      go false true e f = t
-      go false false e f =
+      go : (a b c : Bool) → is-pending (x .id) rs ≡ b → eqb (length rs) places ≡ c → Tabled k xs (cond (a || (b || c)) rs (with-new x rs))
+      go true b c e f = t
+      go false true c e f = t
+      go false false true e f = t
+      go false false false e f =
           let h = below-places t f in
           record {
             well = all-insert _ (new x) (well-newcomer (x .id) (x .rate .0) (x .height .0) (x .id-long) (omega (arith, x .height-small))) (t .well);
@@ -179,7 +182,7 @@ module _ (k : Board) (s : State) (xs : List ℕ) (h : sound-pending k (s .pendin
     apart = λ x i d r. both-idle (entering k x) (leaving k i) (no-entry x) (no-leave i);
     undone = λ x p. let e = idle (entering k x) (leaving k (x .id)) (no-entry x) (no-leave (x .id)) in
         record { state = ap (λ (o : Outcome (List ℕ)). o .state) e; lent = ap (λ (o : Outcome (List ℕ)). o .lent) e };
-    full = λ x g p e. absurd (true≢false (sym g ∙ h));
+    full = λ x f g p e. absurd (true≢false (sym g ∙ h));
   }
 
 -- a sound one holds its records
@@ -199,9 +202,9 @@ module _ (k : Board) (law : Lawful k) (s : State) (xs : List ℕ) (b : T (areByt
       subst (λ (n : ℕ). P (record { last = s .last; pending = n; recent = s .recent }) xs) many
       (subst (P (record { last = s .last; pending = length rs; recent = s .recent })) (pending-own k law (s .pending) xs h b) p)
 
-  no-room : (x : Entry) → is-pending (x .id) rs ≡ false → s .pending ≡ pending-capacity k xs → entering k x s xs ≡ refused pending-full s xs
+  no-room : (x : Entry) → floor ≤ x .rate .0 → is-pending (x .id) rs ≡ false → s .pending ≡ pending-capacity k xs → entering k x s xs ≡ refused pending-full s xs
   unfolding enter-call
-  no-room x p e = rw (h, p, eq-eqb (s .pending) (pending-capacity k xs) e)
+  no-room x f p e = rw (h, le-ltb (x .rate .0) floor f, p, eq-eqb (s .pending) (pending-capacity k xs) e)
 
   not-there : (i : Id) → is-pending i rs ≡ false → leaving k i s xs ≡ refused absent s xs
   unfolding leave-call
@@ -213,7 +216,7 @@ module _ (k : Board) (law : Lawful k) (s : State) (xs : List ℕ) (b : T (areByt
     leaves = λ i j d. given (Commute (leaving k i) (leaving k j)) (leaves-law k law (s .last) (s .recent) xs fine i j d);
     apart = λ x i d r. given (Commute (entering k x) (leaving k i)) (apart-law k law (s .last) (s .recent) xs fine x i d (omega (arith, many)));
     undone = λ x p. given (λ t ys. Holds (in-turn (entering k x) (leaving k (x .id)) t ys) t ys) (undone-law k law (s .last) (s .recent) xs fine x p);
-    full = λ x g p e. (no-room x p e, ap (λ (o : Outcome (List ℕ)). leaving k (x .id) (o .state) (o .lent)) (no-room x p e) ∙ not-there (x .id) p);
+    full = λ x f g p e. (no-room x f p e, ap (λ (o : Outcome (List ℕ)). leaving k (x .id) (o .state) (o .lent)) (no-room x f p e) ∙ not-there (x .id) p);
   }
 
 pub order-promise : (k : Board) → Lawful k → OrderPromise k

@@ -1,4 +1,4 @@
--- Entries of different ids, none pending, with a free place for each, are all put in, and in any order make the same records. Assumes nothing.
+-- Entries of different ids, none pending, with a free place for each, are all put in but those below the floor, and in any order make the same records. Assumes nothing.
 use mathlib.Core.Path.{_≡_, refl, sym, ap, _∙_, subst}
 use mathlib.Core.Bool.{Bool, true, false, not, _&&_}
 use mathlib.Core.List.{List, [], _∷_}
@@ -20,7 +20,7 @@ use Rattle.rules.proofs.Records.{and-left, and-right, and-both}
 use Rattle.rules.proofs.Sound.{Tabled}
 use Rattle.orders.specs.Orders.{Entry, Holds}
 use Rattle.orders.specs.Feeds.{entering-all, distinct, Reordered, as-they-are, swapped, after, and-then, FeedPromise}
-use Rattle.orders.proofs.Steps.{come, with-new, comes, one-more, others-there, entries-swap}
+use Rattle.orders.proofs.Steps.{come, put, comes, at-most-one, put-shows-not, entries-swap}
 use Rattle.orders.proofs.Calls.{entering-does, no-entry, fine, given}
 
 -- ---- what is asked of entries does not depend on their order
@@ -81,16 +81,16 @@ module _ (n : ℕ) where
     unfolding every
     first-new = not-true _ (and-left (not (is-pending (x .id) rs)) _ (w .new-ids))
 
-    put-in : come n x rs ≡ with-new x rs
+    put-in : come n x rs ≡ put x rs
     put-in = comes n x rs first-new (omega (arith, w .room))
 
     -- once the first has come, the others may
-    still-new : (ys : List Entry) → every (λ y. not (same (x .id) (y .id))) ys ≡ true → every (λ y. not (is-pending (y .id) rs)) ys ≡ true → every (λ y. not (is-pending (y .id) (with-new x rs))) ys ≡ true
+    still-new : (ys : List Entry) → every (λ y. not (same (x .id) (y .id))) ys ≡ true → every (λ y. not (is-pending (y .id) rs)) ys ≡ true → every (λ y. not (is-pending (y .id) (put x rs))) ys ≡ true
     unfolding every
     still-new [] d h = refl
     still-new (y ∷ ys) d h =
         let other = not-true _ (and-left (not (same (x .id) (y .id))) _ d) in
-        and-both (ap not (others-there x (y .id) rs other) ∙ and-left (not (is-pending (y .id) rs)) _ h)
+        and-both (ap not (put-shows-not x (y .id) rs other) ∙ and-left (not (is-pending (y .id) rs)) _ h)
         (still-new ys (and-right (not (same (x .id) (y .id))) _ d) (and-right (not (is-pending (y .id) rs)) _ h))
 
     next-welcome : Welcome (come n x rs) es
@@ -98,7 +98,7 @@ module _ (n : ℕ) where
     next-welcome = subst (λ (l : List Pending). Welcome l es) (sym put-in) (record {
       new-ids = still-new es (and-left (every (λ y. not (same (x .id) (y .id))) es) (distinct es) (w .apart)) (and-right (not (is-pending (x .id) rs)) _ (w .new-ids));
       apart = and-right (every (λ y. not (same (x .id) (y .id))) es) (distinct es) (w .apart);
-      room = omega (arith, one-more x rs, w .room);
+      room = omega (arith, at-most-one x rs, w .room);
     })
 
   come-reordered : {rs : List Pending} {es fs : List Entry} → Reordered es fs → Welcome rs es → come-all es rs ≡ come-all fs rs

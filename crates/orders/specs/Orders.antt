@@ -11,6 +11,7 @@ use Rattle.kinds.specs.declared.Height.{Height}
 use Rattle.kinds.specs.declared.State.{State}
 use Rattle.kinds.specs.Answers.{pending-full, absent}
 use Rattle.rules.specs.Ids.{Id, same}
+use Rattle.rules.specs.Ladder.{floor}
 use Rattle.rules.specs.Board.{Board}
 use Rattle.rules.specs.Estimator.{is-pending}
 use Rattle.rules.specs.Memory.{pending-capacity, pending-records, sound-pending}
@@ -77,8 +78,8 @@ pub record Orders (k : Board) (s : State) (xs : List ℕ) : Type 0 where
   pub apart : (x : Entry) (i : Id) → same (x .id) i ≡ false → Free 1 k s xs → Commute (entering k x) (leaving k i) s xs
   -- "Entering an id that is not pending and then leaving it restores all memory;"
   pub undone : (x : Entry) → has k s xs (x .id) ≡ false → Holds (in-turn (entering k x) (leaving k (x .id)) s xs) s xs
-  -- "on a full table the first is refused and the second answers Absent, and memory is the same again."
-  pub full : (x : Entry) → sound-pending k (s .pending) xs ≡ true → has k s xs (x .id) ≡ false → s .pending ≡ pending-capacity k xs
+  -- "on a full table the first is refused and the second answers Absent, and memory is the same again." (Below the floor its refusal is another: 16, L9.)
+  pub full : (x : Entry) → floor ≤ x .rate .0 → sound-pending k (s .pending) xs ≡ true → has k s xs (x .id) ≡ false → s .pending ≡ pending-capacity k xs
       → (entering k x s xs ≡ refused pending-full s xs) × (in-turn (entering k x) (leaving k (x .id)) s xs ≡ refused absent s xs)
 
 -- whatever state is given and whatever bytes are lent, sound or not

@@ -23,13 +23,21 @@ use Rattle.orders.specs.Gaps.{all-done, then-block, alone}
 abbrev pub id : ℕ → Id
 id n = n ∷ replicate 31 0
 
--- id n enters at the rate 5,000 and the height 100
+-- id n enters at a rate and the height 100
+abbrev pub entry-at : ℕ → ℕ → Entry
+entry-at rate n = record { id = id n; rate = record { 0 = rate }; height = record { 0 = 100 }; id-long = refl; height-small = lit< tt }
+
+-- at the rate 5,000
 abbrev pub entry : ℕ → Entry
-entry n = record { id = id n; rate = record { 0 = 5000 }; height = record { 0 = 100 }; id-long = refl; height-small = lit< tt }
+entry n = entry-at 5000 n
 
 -- id n enters the base board
 abbrev pub enters : ℕ → Call
 enters n = entering base (entry n)
+
+-- at the highest rate that is below the floor
+abbrev pub enters-low : ℕ → Call
+enters-low n = entering base (entry-at 999 n)
 
 -- id n leaves the base board
 abbrev pub leaves : ℕ → Call
@@ -61,7 +69,7 @@ turns n xs p a q b m ys =
     let o = in-turn p q (used n) xs in
     eqb (p (used n) xs .answer .number) a && (eqb (o .answer .number) b && (eqb (o .state .pending) m && same (o .lent) ys))
 
--- the twelve cases
+-- the cases
 unfoldable pub worked : List Bool
 worked =
     -- An entry and a leave of one id: the entry first, and nothing is left; the leave first, and it is answered Absent and the record stays.
@@ -82,6 +90,12 @@ worked =
     ∷ turns 1 (table (taken 7)) (leaves 7) 0 (leaves 7) 4 0 (table free)
     -- A full table: refused, then Absent, and the memory as it was.
     ∷ turns 1 (table (taken 7)) (enters 9) 3 (leaves 9) 4 1 (table (taken 7))
+    -- Below the floor, beside another entry: refused in either order, and takes no place.
+    ∷ turns 0 (table free) (enters-low 7) 16 (enters 9) 0 1 (table (taken 9))
+    ∷ turns 0 (table free) (enters 9) 0 (enters-low 7) 16 1 (table (taken 9))
+    -- Undone like any other: refused, then Absent, on a full table too.
+    ∷ turns 0 (table free) (enters-low 7) 16 (leaves 7) 4 0 (table free)
+    ∷ turns 1 (table (taken 7)) (enters-low 9) 16 (leaves 9) 4 1 (table (taken 7))
     -- Damaged memory, two places used where there is one: both are refused.
     ∷ turns 2 (table (taken 7)) (leaves 7) 1 (leaves 9) 1 2 (table (taken 7))
     ∷ []

@@ -14,9 +14,10 @@ use borrow.Author.Tests.{leb-true, ltb-false, eq-eqb}
 use Rattle.kinds.specs.declared.FeeRate.{FeeRate}
 use Rattle.kinds.specs.declared.Height.{Height}
 use Rattle.kinds.specs.declared.State.{State}
-use Rattle.kinds.specs.Answers.{damaged, already-pending, pending-full, absent, bad-list, gap-too-wide, confirmed-full}
+use Rattle.kinds.specs.Answers.{damaged, below-floor, already-pending, pending-full, absent, bad-list, gap-too-wide, confirmed-full}
 use Rattle.rules.specs.Lists.{keep, insert}
 use Rattle.rules.specs.Ids.{Id, same, below, dropped, placed}
+use Rattle.rules.specs.Ladder.{floor}
 use Rattle.rules.specs.Counts.{Counts, places-of-counts}
 use Rattle.rules.specs.Board.{Board, Pending, confirmed-size, pending-most, confirmed-most, Lawful}
 use Rattle.rules.specs.Records.{sound-table}
@@ -151,9 +152,10 @@ module _ (k : Board) (law : Lawful k) (d : Factor (k .decay)) where
         let xs = l .pending in
         let rs = pending-records k (s .pending) xs in
         unless-beside (not (sound-pending k (s .pending) xs)) (refused damaged s xs) _ h
+        (λ _. unless-beside (ltb (rate .0) floor) (refused below-floor s xs) _ h
         (λ _. unless-beside (is-pending i rs) (refused already-pending s xs) _ h
         (λ _. unless-beside (eqb (s .pending) (pending-capacity k xs)) (refused pending-full s xs) _ h
-        (λ q. tabled-sound (admit i (rate .0) (g .0) rs) (well-entered i (rate .0) (g .0) (view k s l) n b well) (admitted-fits i (rate .0) (g .0) q))))
+        (λ q. tabled-sound (admit i (rate .0) (g .0) rs) (well-entered i (rate .0) (g .0) (view k s l) n b well) (admitted-fits i (rate .0) (g .0) q)))))
       where
         admitted-fits : (i : Id) (x g : ℕ) → eqb (s .pending) (pending-capacity k (l .pending)) ≡ false → length (admit i x g (pending-records k (s .pending) (l .pending))) ≤ pending-capacity k (l .pending)
         admitted-fits i x g q = omega (arith, grown i x g (pending-records k (s .pending) (l .pending)), used-pending, room .pending, different (s .pending) (pending-capacity k (l .pending)) q)

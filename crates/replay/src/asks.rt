@@ -2,6 +2,7 @@
 use crate::parts::front;
 use crate::parts::least;
 use crate::says::say;
+use crate::says::say_bucket;
 use crate::says::say_carrying;
 use crate::says::say_estimate;
 use crate::says::say_last;
@@ -139,7 +140,7 @@ pub(crate) fn ask(
 ) -> usize {
     let of = line.operation;
     match of {
-        Operation::Bucket => say_line(bucket_index_for_rate(FeeRate(line.a)) as u64),
+        Operation::Bucket => say_bucket(bucket_index_for_rate(FeeRate(line.a))),
         Operation::Estimate => {
             let target = Blocks((line.a % 4294967296) as u32);
             say_estimate(estimate(state, confirmed, resolved, target, on));

@@ -1,5 +1,6 @@
 // What is written: each word as soon as it is known.
 use desk::Reply;
+use kinds::BucketIndex;
 use kinds::Estimated;
 use kinds::Last;
 use libc::STDOUT_FILENO;
@@ -67,6 +68,14 @@ pub(crate) fn say_estimate(e: Estimated) {
             say_text(b"rate ");
             say_line(r.0);
         }
+    }
+}
+
+// A bucket, or that there is none.
+pub(crate) fn say_bucket(b: BucketIndex) {
+    match b {
+        BucketIndex::NoBucket => say_text(b"none\n"),
+        BucketIndex::Bucket(n) => say_line(n as u64),
     }
 }
 

@@ -11,8 +11,9 @@ use Rattle.kinds.specs.declared.FeeRate.{FeeRate}
 use Rattle.kinds.specs.declared.Height.{Height}
 use Rattle.kinds.specs.declared.Blocks.{Blocks}
 use Rattle.kinds.specs.declared.State.{State}
-use Rattle.kinds.specs.Answers.{Answer, done, damaged, already-pending, pending-full, absent, bad-list, gap-too-wide, confirmed-full}
+use Rattle.kinds.specs.Answers.{Answer, done, damaged, below-floor, already-pending, pending-full, absent, bad-list, gap-too-wide, confirmed-full}
 use Rattle.rules.specs.Ids.{Id}
+use Rattle.rules.specs.Ladder.{floor}
 use Rattle.rules.specs.Counts.{places-of-counts}
 use Rattle.rules.specs.Board.{Board, Pending, confirmed-size, pending-most, confirmed-most}
 use Rattle.rules.specs.Estimator.{Estimator, fresh, is-pending, admit, without, block-connected}
@@ -104,10 +105,11 @@ module _ (k : Board) where
   enter-met : (s : State) (i : Id) (rate : FeeRate) (h : Height) (xs : List ℕ) → Met (of-pending k) xs (enter-call k s xs i rate h) (enter-call k s (of-pending k .inner xs) i rate h)
   unfolding enter-call
   enter-met s i rate h xs =
-      judged-met s xs (λ rs ys. cond (is-pending i rs) (refused already-pending s ys) (cond (eqb (s .pending) (pending-capacity k ys)) (refused pending-full s ys) (accepted-pending k s (admit i (rate .0) (h .0) rs) ys)))
-      (λ rs. choose (is-pending i rs) _ refl (pending-kept xs already-pending s)
+      judged-met s xs (λ rs ys. cond (ltb (rate .0) floor) (refused below-floor s ys) (cond (is-pending i rs) (refused already-pending s ys) (cond (eqb (s .pending) (pending-capacity k ys)) (refused pending-full s ys) (accepted-pending k s (admit i (rate .0) (h .0) rs) ys))))
+      (λ rs. choose (ltb (rate .0) floor) _ refl (pending-kept xs below-floor s)
+      (λ _. choose (is-pending i rs) _ refl (pending-kept xs already-pending s)
       (λ _. choose (eqb (s .pending) (pending-capacity k xs)) _ (ap (eqb (s .pending)) (same-places (k .table .size) pending-most xs)) (pending-kept xs pending-full s)
-      (λ _. pending-laid xs s (admit i (rate .0) (h .0) rs))))
+      (λ _. pending-laid xs s (admit i (rate .0) (h .0) rs)))))
 
   leave-met : (s : State) (i : Id) (xs : List ℕ) → Met (of-pending k) xs (leave-call k s xs i) (leave-call k s (of-pending k .inner xs) i)
   unfolding leave-call

@@ -2,7 +2,7 @@
 use lib.Ieee.{round, add, mul, div, le, lt, toBits}
 use Rattle.rules.specs.Lists.{count, any, every, keep, insert, places}
 use Rattle.rules.specs.Ids.{same, below, rising, dropped, placed}
-use Rattle.rules.specs.Ladder.{ladder, last-not-above, bucket-index}
+use Rattle.rules.specs.Ladder.{ladder, last-not-above, bucket-index, bucket-for}
 use Rattle.rules.specs.Counts.{gain, apply-decay, finite, sound-count}
 use Rattle.rules.specs.Bytes.{bytes}
 use Rattle.rules.specs.Board.{in-range, pending-bytes, pending-of, confirmed-bytes, confirmed-of}
@@ -15,7 +15,7 @@ use Rattle.rules.proofs.Edge.{same-counts, only}
 
 -- document 01's steps and the estimate
 unfoldable pub compute-steps : Unit {0}
-unfolding round add mul div le toBits count any every keep insert places same below dropped placed ladder last-not-above bucket-index gain apply-decay fresh is-pending find holds admit tx-entered tx-left record-confirmation expire-targets advance-height advances advance-heights skip-heights confirm confirm-all finish-block block-connected column-of column passes add-bucket sums-down-to rate-in-column estimate same-counts only
+unfolding round add mul div le toBits count any every keep insert places same below dropped placed ladder last-not-above bucket-index bucket-for gain apply-decay fresh is-pending find holds admit tx-entered tx-left record-confirmation expire-targets advance-height advances advance-heights skip-heights confirm confirm-all finish-block block-connected column-of column passes add-bucket sums-down-to rate-in-column estimate same-counts only
 compute-steps = tt
 
 -- the public calls, which judge memory, take the steps and lay the tables

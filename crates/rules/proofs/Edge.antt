@@ -36,6 +36,7 @@ id n = n ∷ replicate 31 0
 -- one call
 pub data Ask : Type 0 where
   enters : State → List ℕ → Id → Ask  -- at rate 5,000 and height 100
+  enters-at : ℕ → State → List ℕ → Id → Ask  -- rate, at height 100
   leaves : State → List ℕ → Id → Ask
   connects : State → Lent → List ℕ → ℕ → Ask  -- the list's bytes, height
   estimates : Counts → Counts → ℕ → Ask  -- target
@@ -43,6 +44,7 @@ pub data Ask : Type 0 where
 -- its answer
 unfoldable pub answer-of : Board → Ask → Answer
 answer-of k (enters s xs i) = enter-call k s xs i (record { 0 = 5000 }) (record { 0 = 100 }) .answer
+answer-of k (enters-at rate s xs i) = enter-call k s xs i (record { 0 = rate }) (record { 0 = 100 }) .answer
 answer-of k (leaves s xs i) = leave-call k s xs i .answer
 answer-of k (connects s l ids B) = block-call k s l ids (record { 0 = B }) .answer
 answer-of k (estimates c r target) = estimate-call k (record { last = Nothing; pending = 0; recent = 0 }) c r (record { 0 = target })

@@ -12,7 +12,7 @@ use Rattle.kinds.specs.declared.Last.the-variants.{Nothing, At}
 use Rattle.rules.specs.Counts.{Counts, columns, places-of-counts, decimal, nought, one, no-counts}
 use Rattle.rules.specs.Board.{Board, base}
 use Rattle.rules.specs.Memory.{Lent, lent}
-use Rattle.rules.proofs.Edge.{id, enters, leaves, connects, estimates, Edge, says, starts, leaves-tables, leaves-counts, leaves-beyond}
+use Rattle.rules.proofs.Edge.{id, enters, enters-at, leaves, connects, estimates, Edge, says, starts, leaves-tables, leaves-counts, leaves-beyond}
 
 -- ---- memory, with three bytes past the pending capacity and one past the confirmed capacity
 
@@ -88,6 +88,12 @@ edges =
     ∷ says (enters (state Nothing 1 0) (pending 1 33 0 ++ (5 ∷ [])) (id 1)) 2 []
     ∷ says (enters (state Nothing 1 0) (pending 1 33 0 ++ (5 ∷ [])) (id 2)) 3 []
     ∷ says (enters (state Nothing 0 0) [] (id 1)) 3 []
+    -- 16 after 1 and before 2 and 3: 999 is below the floor, 1,000 is not
+    ∷ says (enters-at 999 (state Nothing 1 0) (pending 1 142 0) (id 1)) 1 []
+    ∷ says (enters-at 999 (state Nothing 1 0) (pending 1 33 0 ++ (5 ∷ [])) (id 1)) 16 []
+    ∷ says (enters-at 0 (state Nothing 0 0) [] (id 1)) 16 []
+    ∷ says (enters-at 1000 (state Nothing 1 0) (pending 1 33 0 ++ (5 ∷ [])) (id 1)) 2 []
+    ∷ says (enters-at 1000 (state Nothing 0 0) (zeros 44) (id 1)) 0 []
     -- 4
     ∷ says (leaves (state Nothing 1 0) (pending 1 33 0 ++ (5 ∷ [])) (id 2)) 4 []
     -- block judges all: each count, each table

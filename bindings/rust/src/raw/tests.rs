@@ -1,16 +1,18 @@
 //! What the safe methods never ask of the library, on each board: states that are none, tables that are no tables, and null pointers.
 
 use super::{Lent, State, block_connected, estimate, from_history_bytes, new, to_history_bytes, tx_entered, tx_left, version};
-use crate::{Base, Board, COUNTS, PENDING_SIZE, RECENT_SIZE, Txid, VERSION, Wide, expect_version};
+use crate::{Base, Board, COUNTS, FLOOR, PENDING_SIZE, RECENT_SIZE, Txid, VERSION, Wide, expect_version};
 use std::ptr::{null, null_mut};
 
 const DAMAGED: u32 = 1;
+const BELOW_FLOOR: u32 = 16;
 const ID: Txid = Txid([7; 32]);
 
 on_each_board! {
     a_fresh_state_is_taken,
     a_state_that_is_none_is_damaged,
     used_numbers_beyond_the_tables_are_damaged,
+    damage_is_told_before_the_floor,
     short_counts_are_damaged,
     null_pointers_with_no_elements_make_an_estimator_without_tables,
     nothing_but_null_pointers_is_damaged,
@@ -88,6 +90,14 @@ fn used_numbers_beyond_the_tables_are_damaged<B: Board>() {
     assert_eq!(beyond.answers::<B>(), [0, 0, DAMAGED, 0, DAMAGED]);
 }
 
+fn damage_is_told_before_the_floor<B: Board>() {
+    let below = |mut memory: Memory| tx_entered::<B>(&mut memory.state, &mut memory.pending, &ID, FLOOR - 1, 100);
+    assert_eq!(below(Memory::fresh::<B>()), BELOW_FLOOR);
+    assert_eq!(below(Memory { state: [0, 0, 3, 0], ..Memory::fresh::<B>() }), DAMAGED);
+    assert_eq!(below(Memory { pending: vec![1; PENDING_SIZE], ..Memory::fresh::<B>() }), DAMAGED);
+    assert_eq!(below(Memory { state: [2, 0, 0, 0], ..Memory::fresh::<B>() }), DAMAGED);
+}
+
 fn short_counts_are_damaged<B: Board>() {
     let mut short = Memory { resolved: vec![0.0; COUNTS - 1], ..Memory::fresh::<B>() };
     let before = short.clone();
@@ -103,9 +113,9 @@ fn the_library_has_this_crates_version() {
 }
 
 #[test]
-#[should_panic(expected = "has version 2 of its interface, and this crate is for version 1")]
+#[should_panic(expected = "has version 1 of its interface, and this crate is for version 2")]
 fn another_version_is_told() {
-    expect_version(2);
+    expect_version(1);
 }
 
 fn null_pointers_with_no_elements_make_an_estimator_without_tables<B: Board>() {
@@ -116,6 +126,7 @@ fn null_pointers_with_no_elements_make_an_estimator_without_tables<B: Board>() {
     unsafe {
         assert_eq!((calls.new)(c, n, r, n, none, 0, none, 0, s, 4), 0);
         assert_eq!((calls.tx_entered)(s, 4, none, 0, id, 32, 5_000, 100), 3);
+        assert_eq!((calls.tx_entered)(s, 4, none, 0, id, 32, 999, 100), BELOW_FLOOR);
         assert_eq!((calls.tx_left)(s, 4, none, 0, id, 32), 4);
         assert_eq!((calls.block_connected)(s, 4, c, n, r, n, none, 0, none, 0, id, 32, 101), 0);
         assert_eq!((calls.block_connected)(s, 4, c, n, r, n, none, 0, none, 0, null(), 0, 102), 0);
