@@ -1,4 +1,4 @@
--- Enter and leave over plain lists: the answers of the code, test by test, are the definitions'. An enter searches a sound table for the id: where the search
+-- Enter and leave over plain lists: the answers of the code, test by test, are the definitions'. An enter at the floor or above searches a sound table for the id: where the search
 -- ends at a record the id is pending, and where it ends in a gap it is not. A leave counts what is left: as many records as before where the id was not pending.
 -- What either leaves is the rules' records, laid. Assumes nothing.
 use mathlib.Core.Path.{_≡_, refl, sym, ap, ap₂, _∙_}
@@ -8,16 +8,16 @@ use Prim.Native.Nat.{ℕ, suc, _+_, _*_, _^_, _≤_, _<_}
 use native.Mathlib.Nat.{le-trans, lt-of-lt-of-le}
 use native.Mathlib.Omega.{arith}
 use borrow.Author.Tests.{eq-eqb, ne-eqb, lt-leb}
-use lib.Dec.{T, lit<, lit≤}
+use lib.Dec.{T, ltb, lit<, lit≤}
 use lib.ListN.{length, length-append, length-take, length-drop, length-map}
 use lib.Pow.{areBytes}
 use Rattle.kinds.specs.declared.FeeRate.{FeeRate}
 use Rattle.kinds.specs.declared.Height.{Height}
 use Rattle.kinds.specs.declared.State.{State}
-use Rattle.kinds.specs.Answers.{done, damaged, already-pending, pending-full, absent}
+use Rattle.kinds.specs.Answers.{done, damaged, below-floor, already-pending, pending-full, absent}
 use Rattle.rules.specs.Lists.{any, keep}
 use Rattle.rules.specs.Ids.{Id, same, dropped, placed}
-use Rattle.rules.specs.Ladder.{bucket-index}
+use Rattle.rules.specs.Ladder.{floor, bucket-index}
 use Rattle.rules.specs.Board.{Board, Lawful, Pending, PendingFits, pending-most}
 use Rattle.rules.specs.Records.{records, id-of, capacity, sound-table, laid}
 use Rattle.rules.specs.Estimator.{is-pending, without, admit}
@@ -128,15 +128,19 @@ module _ (k : Board) (law : Lawful k) (a : Given) where
 
     -- ---- enter
 
-    module _ (rate : FeeRate) (h : Height) where
+    pub enter-low : (rate : FeeRate) (h : Height) → ltb (rate .0) floor ≡ true → outcome below-floor s xs ≡ enter-call k s xs (a .id) rate h
+    unfolding enter-call
+    enter-low rate h e = sym (rw (p, e))
+
+    module _ (rate : FeeRate) (h : Height) (high : ltb (rate .0) floor ≡ false) where
       pub enter-there : (n : ℕ) → Ends (At n) → outcome already-pending s xs ≡ enter-call k s xs (a .id) rate h
       unfolding enter-call
-      enter-there n f = sym (rw (p, is-there n f))
+      enter-there n f = sym (rw (p, high, is-there n f))
 
       module _ (n : ℕ) (f : Ends (Gap n)) where
         pub enter-full : s .pending ≡ pending-capacity k xs → outcome pending-full s xs ≡ enter-call k s xs (a .id) rate h
         unfolding enter-call
-        enter-full e = sym (rw (p, is-missing n f, eq-eqb _ _ e))
+        enter-full e = sym (rw (p, high, is-missing n f, eq-eqb _ _ e))
 
         abbrev new : ℕ → Pending
         new b = record { id = a .id; bucket = b; entry = h .0; through = 0 }
@@ -168,4 +172,4 @@ module _ (k : Board) (law : Lawful k) (a : Given) where
             unfolding enter-call
             enter-done u g =
                 handed (s .pending + 1) u ys (placed (λ r. r .id) (new b) rs) g entered
-                ∙ sym (rw (p, is-missing n f, ne-eqb (s .pending) (capacity (k .table .size) pending-most xs) (λ o. omega arith), admitted, q))
+                ∙ sym (rw (p, high, is-missing n f, ne-eqb (s .pending) (capacity (k .table .size) pending-most xs) (λ o. omega arith), admitted, q))
