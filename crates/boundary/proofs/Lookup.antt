@@ -13,6 +13,11 @@ told-apart (under-all f) (in-bucket b l m n) e = absurd (omega arith)
 told-apart (in-bucket b l m n) (under-all g) e = absurd (omega arith)
 told-apart (in-bucket b l m n) (in-bucket c r s t) e = ap some e
 
+-- the number of what the lookup answers
+pub numbered : (x : ℕ) (o : Option ℕ) → o ≡ bucket-for x → bucket-number o ≡ izr-bucket-index-for-rate x
+unfolding izr-bucket-index-for-rate
+numbered x o e = ap bucket-number e
+
 pub lookup : LookupPromise
 unfolding LookupPromise izr-bucket-index-for-rate
 lookup x y e = told-apart (looked-up x) (looked-up y) e
