@@ -8,7 +8,7 @@ use Rattle.kinds.specs.declared.Last.the-variants.{Nothing}
 use Rattle.rules.specs.Counts.{Counts, columns, nought, one}
 use Rattle.rules.specs.Board.{wide}
 use Rattle.rules.specs.Memory.{Lent}
-use Rattle.rules.proofs.Edge.{id, leaves, connects, estimates, Edge, says, leaves-tables, leaves-counts, only}
+use Rattle.rules.proofs.Edge.{id, enters-at, leaves, connects, estimates, Edge, says, leaves-tables, leaves-counts, only}
 use Rattle.rules.proofs.Edges.{zeros, pending, confirmed, memory, one-pending, state, at, first-count, decayed}
 
 -- one, n heights later
@@ -41,6 +41,10 @@ wide-edges =
     -- resolved-through counts columns: 25 is the most, and 26 Damaged
     ∷ says (leaves (state Nothing 1 0) (pending 1 141 25) (id 1)) 0 []
     ∷ says (leaves (state Nothing 1 0) (pending 1 141 26) (id 1)) 1 []
+    -- the floor is the base board's too: 16 at 999, also of a pending id, and not at 1,000
+    ∷ says (enters-at 999 (state Nothing 1 0) (pending 1 33 0 ++ zeros 44) (id 1)) 16 []
+    ∷ says (enters-at 999 (state Nothing 0 0) (zeros 44) (id 1)) 16 []
+    ∷ says (enters-at 1000 (state Nothing 0 0) (zeros 44) (id 1)) 0 []
     -- the gap of 4,096 is the base board's
     ∷ says (connects (state (at 100) 1 0) one-pending [] 4196) 0 []
     ∷ says (connects (state (at 100) 1 0) one-pending [] 4197) 6 []

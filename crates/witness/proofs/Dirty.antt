@@ -29,8 +29,10 @@ connects ids h = connect ids (record { 0 = h })
 abbrev asked : List Call
 asked =
     enters 1 5000 100
+    ∷ enters 1 999 100
     ∷ enters 1 5000 100
     ∷ enters 2 5000 100
+    ∷ enters 3 999 100
     ∷ enters 3 5000 100
     ∷ leave (id 3)
     ∷ connects (id 1 ++ id 2) 101
@@ -77,8 +79,8 @@ pub record Ran (x : Held) : Type 0 where
   pub state-is : x .state ≡ record { last = At (record { 0 = 102 }); pending = 1; recent = 2 }
   pub memory-is : T (left-so (x .memory))
 
--- AlreadyPending, PendingFull, Absent, BadList, GapTooWide, ConfirmedFull, each refused where it must be
-pub answered : answers asked (started base dirty) ≡ 0 ∷ 2 ∷ 0 ∷ 3 ∷ 4 ∷ 0 ∷ 5 ∷ 0 ∷ 0 ∷ 6 ∷ 0 ∷ 0 ∷ 7 ∷ []
+-- BelowFloor (of a pending id, and on a full table), AlreadyPending, PendingFull, Absent, BadList, GapTooWide, ConfirmedFull, each refused where it must be
+pub answered : answers asked (started base dirty) ≡ 0 ∷ 16 ∷ 2 ∷ 0 ∷ 16 ∷ 3 ∷ 4 ∷ 0 ∷ 5 ∷ 0 ∷ 0 ∷ 6 ∷ 0 ∷ 0 ∷ 7 ∷ []
 unfolding compute-runs answers
 answered = refl
 
