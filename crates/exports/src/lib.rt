@@ -1,6 +1,6 @@
-// The bodies of the exported calls, over the horizon, but for the lookup, which is of no board. Each judges the words that it is given, makes the call on the state that they hold, and tells its
-// outcome in words. Each is what its definition in boundary/specs/Calls says, for every input; none asks anything of its caller. Words that hold no state,
-// an id that is not 32 bytes and a `carried` of no words are Damaged, and nothing is changed.
+// The bodies of the exported calls, over the horizon: each judges the words that it is given, makes the call on the state that they hold, and tells its
+// outcome in words; the lookup, which is of no board, has numbers alone. Each is what its definition in boundary/specs/Calls says, for every input; none asks
+// anything of its caller. Words that hold no state, an id that is not 32 bytes and a `carried` of no words are Damaged, and nothing is changed.
 use kinds::BUCKET_COUNT;
 use kinds::Blocks;
 use kinds::BucketIndex;

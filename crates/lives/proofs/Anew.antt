@@ -42,7 +42,7 @@ module _ (k : Board) (law : Lawful k) (m : Lent) (x : Held) (c : Comes k m x) (l
       let ready : Ready k (x .state) l = ready-sound k law (x .state) l (a .is-sound) b d in
       record {
         is = ap₂ (λ (s : State) (n : Lent). record { state = s; memory = n; log = x .log }) (ap (λ (y : Held). y .state) (c .is)) (sym (ready .own) ∙ ap (λ (e : Estimator). lay k e l) seen);
-        live = record { well = c .live .well; room = subst (λ (e : Estimator). Room k e l) seen (ready .room); admitted = c .live .admitted };
+        live = record { well = c .live .well; room = subst (λ (e : Estimator). Room k e l) seen (ready .room); admitted = c .live .admitted; floored = c .live .floored };
       }
 
 -- ---- a copy

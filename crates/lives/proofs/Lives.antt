@@ -155,6 +155,7 @@ module _ (v : Version) (k : Board) (law : Lawful k) where
     restated = restated k law m (y .held) c r;
     answered = answers-of k law d m (y .held) c r;
     success = success k law d (singly (y .held .log)) (y .held) (meant k law m (y .held) c r);
+    floored = c .live .floored;
   }
 
   pub life-promise : Factor (k .decay) → LifePromise v k

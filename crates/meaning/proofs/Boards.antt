@@ -7,11 +7,11 @@ use Rattle.meaning.specs.Fates.{Promise}
 use Rattle.meaning.specs.Answered.{AnswerPromise, RunPromise, RestatePromise}
 use Rattle.meaning.specs.Success.{WalkPromise, SuccessPromise}
 use Rattle.meaning.specs.Floor.{FloorPromise}
+use Rattle.meaning.proofs.Leading.{comes}
 use Rattle.meaning.proofs.Meaning.{promise, restate-promise}
 use Rattle.meaning.proofs.Sound.{run-promise}
 use Rattle.meaning.proofs.Answered.{answer-promise}
 use Rattle.meaning.proofs.Success.{walk, success-promise}
-use Rattle.meaning.proofs.Floor.{floor-promise}
 
 -- demand 3
 pub meaning : (on : Horizon) → Promise (board-of on)
@@ -39,4 +39,5 @@ between-none-and-all on = success-promise (board-of on) (board-lawful on) (board
 
 -- no admission is below the floor
 pub floored : (on : Horizon) → FloorPromise (board-of on)
-floored on = floor-promise (board-of on)
+unfolding FloorPromise
+floored on m e cs t = comes (board-of on) (board-lawful on) m e cs t .live .floored

@@ -31,14 +31,14 @@ module _ {L : Type 0} {s : State} {l : L} {good : Outcome L} {Why : Type 0} wher
 
 module _ (k : Board) (s : State) where
   pub enter-judged : (xs : List ℕ) (i : Id) (rate : FeeRate) (h : Height)
-      → Judged s xs (accepted-pending k s (admit i (rate .0) (h .0) (pending-records k (s .pending) xs)) xs) (Free (pending-capacity k xs) i (pending-records k (s .pending) xs)) (enter-call k s xs i rate h)
+      → Judged s xs (accepted-pending k s (admit i (rate .0) (h .0) (pending-records k (s .pending) xs)) xs) (Free (pending-capacity k xs) i (pending-records k (s .pending) xs) × (floor ≤ rate .0)) (enter-call k s xs i rate h)
   unfolding enter-call
   enter-judged xs i rate h =
       unless damaged refl (not (sound-pending k (s .pending) xs))
       (λ p. unless below-floor refl (ltb (rate .0) floor)
-      (λ _. unless already-pending refl (is-pending i (pending-records k (s .pending) xs))
+      (λ b. unless already-pending refl (is-pending i (pending-records k (s .pending) xs))
       (λ q. unless pending-full refl (eqb (s .pending) (pending-capacity k xs))
-      (λ r. taken (record { absent = q; place = place (not-false (sound-pending k (s .pending) xs) p) r })))))
+      (λ r. taken (record { absent = q; place = place (not-false (sound-pending k (s .pending) xs) p) r }, ltb-false (rate .0) floor b)))))
     where
       place : sound-pending k (s .pending) xs ≡ true → eqb (s .pending) (pending-capacity k xs) ≡ false → length (pending-records k (s .pending) xs) < pending-capacity k xs
       place p r = omega (arith, pending-length k (s .pending) xs, pending-within k (s .pending) xs p, eqb-false (s .pending) (pending-capacity k xs) r)

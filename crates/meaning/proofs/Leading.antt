@@ -13,10 +13,12 @@ use Rattle.kinds.specs.declared.State.{State}
 use Rattle.kinds.specs.Answers.{Answer, done, damaged}
 use Rattle.rules.specs.Lists.{count}
 use Rattle.rules.specs.Ids.{Id, same, below, dropped}
+use Rattle.rules.specs.Ladder.{floor}
 use Rattle.rules.specs.Board.{Board, Pending, pending-most, confirmed-most, Lawful}
 use Rattle.rules.specs.Estimator.{Estimator, fresh, is-pending, without, admit, with-pending, tx-entered, tx-left, block-connected}
 use Rattle.rules.specs.Memory.{Lent, pending-capacity, confirmed-capacity, pending-records, lay-pending, lay-confirmed, enough, view, state-of, lay}
 use Rattle.rules.specs.Calls.{Outcome, refused, accepted, start-call, accepted-pending, enter-call, leave-call, ids-of, pending-listings, block-call}
+use Rattle.rules.proofs.Rates.{not-below, below-next}
 use Rattle.rules.proofs.Listed.{ids-sized}
 use Rattle.rules.proofs.Memory.{Room, same-capacity, confirmed-kept, view-of-lay, lay-over}
 use Rattle.rules.proofs.Placing.{Free, admit-free}
@@ -25,6 +27,7 @@ use Rattle.rules.proofs.Sound.{well-fits, Tabled, pending-seen, pending-places,
 use Rattle.rules.proofs.Room.{length-insert, length-keep, within-block}
 use Rattle.meaning.specs.Runs.{arrival, removal, block, Log, begin, _▸_, Call, enter, leave, connect, Typed, AllTyped, event-of, Held, with-table, outcome-of, noted, after, after-all, started, calls}
 use Rattle.meaning.specs.Answered.{run}
+use Rattle.meaning.specs.Floor.{Floored}
 use Rattle.meaning.proofs.Table.{Admitted}
 use Rattle.meaning.proofs.Judging.{Judged, turned, taken, enter-judged, leave-judged, block-judged}
 
@@ -37,6 +40,7 @@ pub record Live (k : Board) (m : Lent) (g : Log) : Type 0 where
   pub well : Well (run k g)
   pub room : Room k (run k g) m
   pub admitted : Admitted (λ l. run k l .pending) g
+  pub floored : Floored g
 
 -- a call leads there
 pub record Leads (k : Board) (m : Lent) (x : Held) : Type 0 where
@@ -85,15 +89,15 @@ module _ (k : Board) (law : Lawful k) (m : Lent) (g : Log) (v : Live k m g) wher
   tabled-is rs l = rw (pending-over k law (m .pending) fitting rs)
 
   enter-leads : (i : Id) (rate : FeeRate) (h : Height) → Typed (enter i rate h) → Leads k m (after k (enter i rate h) (at k m g))
-  unfolding after outcome-of Typed tabled lay run tx-entered noted event-of
+  unfolding after outcome-of Typed tabled lay run tx-entered noted event-of Floored
   enter-leads i rate h t = go (enter-call k s xs i rate h) (enter-judged k s xs i rate h)
     where
-      go : (o : Outcome (List ℕ)) → Judged s xs (accepted-pending k s (admit i (rate .0) (h .0) (pending-records k (s .pending) xs)) xs) (Free (pending-capacity k xs) i (pending-records k (s .pending) xs)) o
+      go : (o : Outcome (List ℕ)) → Judged s xs (accepted-pending k s (admit i (rate .0) (h .0) (pending-records k (s .pending) xs)) xs) (Free (pending-capacity k xs) i (pending-records k (s .pending) xs) × (floor ≤ rate .0)) o
           → Leads k m (noted (enter i rate h) (with-table (lay k e m) o) g)
       go o (turned a z) = stays a (enter i rate h) z
       go o (taken f) =
-          let n : length (e .pending) < pending-capacity k (m .pending) = omega (arith, f .place, ap length back, same-room) in
-          let free : Free pending-most i (e .pending) = record { absent = ap (is-pending i) (sym back) ∙ f .absent; place = omega arith } in
+          let n : length (e .pending) < pending-capacity k (m .pending) = omega (arith, f .0 .place, ap length back, same-room) in
+          let free : Free pending-most i (e .pending) = record { absent = ap (is-pending i) (sym back) ∙ f .0 .absent; place = omega arith } in
           let longer : length (admit i (rate .0) (h .0) (e .pending)) ≡ suc (length (e .pending)) =
           ap length (admit-free i (rate .0) (h .0) (e .pending) free) ∙ length-insert (λ x y. below (x .id) (y .id)) (newcomer i (rate .0) (h .0)) (e .pending) in
           record {
@@ -103,11 +107,12 @@ module _ (k : Board) (law : Lawful k) (m : Lent) (g : Log) (v : Live k m g) wher
               well = well-entered i (rate .0) (h .0) e (t .0) (t .1) (v .well);
               room = record { pending = omega arith; recent = v .room .recent };
               admitted = (v .admitted, free);
+              floored = (v .floored, f .1, record { not-below = not-below (rate .0) (f .1); below-next = below-next (rate .0) });
             };
           }
 
   leave-leads : (i : Id) → Leads k m (after k (leave i) (at k m g))
-  unfolding after outcome-of tabled lay run tx-left noted event-of dropped
+  unfolding after outcome-of tabled lay run tx-left noted event-of dropped Floored
   leave-leads i = go (leave-call k s xs i) (leave-judged k s xs i)
     where
       go : (o : Outcome (List ℕ)) → Judged s xs (accepted-pending k s (without i (pending-records k (s .pending) xs)) xs) (Unit {0}) o
@@ -120,11 +125,12 @@ module _ (k : Board) (law : Lawful k) (m : Lent) (g : Log) (v : Live k m g) wher
           well = well-left i e (v .well);
           room = record { pending = omega (arith, length-keep (λ r. not (same (r .id) i)) (e .pending), v .room .pending); recent = v .room .recent };
           admitted = v .admitted;
+          floored = v .floored;
         };
       }
 
   block-leads : (ids : List ℕ) (h : Height) → Typed (connect ids h) → Leads k m (after k (connect ids h) (at k m g))
-  unfolding after outcome-of Typed run noted event-of lay lay-confirmed pending-listings state-of
+  unfolding after outcome-of Typed run noted event-of lay lay-confirmed pending-listings state-of Floored
   block-leads ids h t = go (block-call k s (lay k e m) ids h) (block-judged k s (lay k e m) ids h)
     where
       f : Estimator
@@ -150,6 +156,7 @@ module _ (k : Board) (law : Lawful k) (m : Lent) (g : Log) (v : Live k m g) wher
               well = well-block k (h .0) e (ids-sized ids) t (v .well);
               room = record { pending = omega (arith, w .pending, v .room .pending); recent = omega (arith, w .recent, q, same-full, listed) };
               admitted = v .admitted;
+              floored = v .floored;
             };
           }
 
@@ -181,12 +188,12 @@ start-done k m e = go (enough (m .confirmed) && enough (m .resolved)) e
 -- a fresh start that is answered 0, one call more, and more calls
 
 pub comes-start : (k : Board) (m : Lent) → start-call k m .answer ≡ done → Comes k m (started k m)
-unfolding started run fresh
+unfolding started run fresh Floored
 comes-start k m e =
     led (record {
       to = begin;
       is = ap (λ (o : Outcome Lent). record { state = o .state; memory = o .lent; log = begin }) (start-done k m e);
-      live = record { well = well-fresh; room = record { pending = zero-le; recent = zero-le }; admitted = tt };
+      live = record { well = well-fresh; room = record { pending = zero-le; recent = zero-le }; admitted = tt; floored = tt };
     })
 
 pub comes-after : (k : Board) → Lawful k → (m : Lent) (x : Held) → Comes k m x → (c : Call) → Typed c → Comes k m (after k c x)
