@@ -1,11 +1,11 @@
 // The listed ids of a block: each goes from the pending to the confirmed records, and is counted.
 mod step;
 
+use by_id::is_pending;
 use kinds::Height;
 use kinds::Horizon;
 use kinds::State;
 use step::confirm;
-use table::is_pending;
 ghost use mathlib.Core.Path.{_≡_};
 ghost use mathlib.Core.Bool.{true};
 ghost use Prim.Native.Nat.{_+_, _≤_};

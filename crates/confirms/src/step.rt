@@ -1,13 +1,13 @@
 // One listed id.
 use boards::waited;
+use by_id::forget;
+use by_id::holds;
+use by_id::note_height;
+use ids::Found;
 use kinds::Height;
 use kinds::Horizon;
 use kinds::State;
-use table::Found;
 use table::PendingEntry;
-use table::forget;
-use table::holds;
-use table::note_height;
 ghost use mathlib.Core.Path.{_≡_};
 ghost use Prim.Native.Nat.{_+_, _*_, _≤_};
 ghost use lib.Dec.{leb, ltb};
@@ -60,7 +60,7 @@ fn record_confirmation(
     let used = state.pending;
     let kept = state.recent;
     let size = boards::record_size(on);
-    match table::find(pending, size, used, id) {
+    match ids::find(pending, size, used, id) {
         Found::At(i) => {
             count(
                 confirmed,

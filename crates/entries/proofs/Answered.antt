@@ -29,15 +29,16 @@ use Rattle.rules.proofs.Records.{length-records, sized-records, capacity-room}
 use Rattle.rules.proofs.Rates.{bucket-lt}
 use Rattle.rules.proofs.Sound.{pending-id}
 use Rattle.rules.proofs.Memory.{pending-table, pending-own}
-use Rattle.table.specs.Search.{find-in}
+use Rattle.ids.specs.Search.{find-in}
 use Rattle.table.specs.Edit.{insert-at}
-use Rattle.table.specs.declared.Found.{Found}
-use Rattle.table.specs.declared.Found.the-variants.{At, Gap}
-use Rattle.table.proofs.Records.{record-end, sized-insert}
+use Rattle.ids.specs.declared.Found.{Found}
+use Rattle.ids.specs.declared.Found.the-variants.{At, Gap}
+use Rattle.ids.proofs.Records.{record-end}
+use Rattle.table.proofs.Records.{sized-insert}
 use Rattle.table.proofs.Sound.{sound-told, sound-room}
 use Rattle.table.proofs.Steps.{pending-put}
 use Rattle.table.proofs.Edited.{edited}
-use Rattle.table.proofs.ById.{gap-used, there, missing}
+use Rattle.by_id.proofs.ById.{gap-used, there, missing}
 
 -- where a table is not full there is room for one more record
 pub one-more : (size used : ℕ) (xs : List ℕ) → used < capacity size pending-most xs → used * size + size ≤ length xs

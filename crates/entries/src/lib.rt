@@ -2,6 +2,9 @@
 // its caller. Both judge the table, search it once, and put the record in or take it out where the search has ended; an enter below the floor ends before it
 // searches.
 use boards::record_size;
+use by_id::forget;
+use ids::Found;
+use ids::find;
 use judge::judge_pending;
 use kinds::BucketIndex;
 use kinds::EnterAnswer;
@@ -14,10 +17,7 @@ use kinds::Left;
 use kinds::MAX_PENDING_ENTRIES;
 use kinds::State;
 use ladder::bucket_index_for_rate;
-use table::Found;
 use table::capacity;
-use table::find;
-use table::forget;
 use table::insert_pending;
 ghost use mathlib.Core.Path.{_≡_};
 ghost use Rattle.kinds.specs.Answers.{enter-answer, leave-answer};

@@ -15,7 +15,7 @@ use Rattle.rules.specs.Estimate.{column-of, rate-in-column, estimate}
 use Rattle.rules.specs.Memory.{enough, sound-counts}
 use Rattle.rules.specs.Calls.{rate-answer, estimate-call}
 use Rattle.rules.proofs.Records.{and-left}
-use Rattle.counts.specs.Scan.{estimated}
+use Rattle.scan.specs.Sums.{estimated}
 
 -- none or a rate, as the enum's case and as the document's answer
 same-answer : (o : Option ℕ) → estimate-answer (estimated o) ≡ rate-answer o

@@ -1,11 +1,11 @@
 // The body of an estimate, over the horizon. It is what its definition in rules/specs/Calls says, for every input; it asks nothing of its caller.
 use boards::column_of;
-use counts::rate_in_column;
 use judge::sound_counts;
 use kinds::Blocks;
 use kinds::Estimated;
 use kinds::Horizon;
 use kinds::State;
+use scan::rate_in_column;
 ghost use mathlib.Core.Path.{_≡_};
 ghost use Rattle.kinds.specs.Answers.{estimate-answer};
 ghost use Rattle.rules.specs.Board.{board-of};

@@ -32,7 +32,7 @@ pub fn advance_height(
     let used = state.pending;
     let kept = state.recent;
     let waiting = expiry::expire_pending(resolved, pending, used, h, on);
-    counts::apply_decay(confirmed, resolved, boards::factor_of(on));
+    decay::apply_decay(confirmed, resolved, boards::factor_of(on));
     let young = expiry::prune_confirmed(recent, kept, h);
     State {
         last: Last::At(h),

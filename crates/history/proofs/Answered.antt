@@ -19,7 +19,7 @@ use Rattle.format.specs.File.{Version, read-history, restored}
 use Rattle.format.specs.Calls.{has-room, taken-in, read-call}
 use Rattle.parse.specs.Says.{filed, said, file-says}
 use Rattle.parse.specs.declared.Checked.{Checked}
-use Rattle.parse.specs.declared.head.Header.{Header}
+use Rattle.header.specs.declared.Header.{Header}
 use Rattle.parse.proofs.Held.{pending-many, recent-many}
 
 -- what `refused` answers

@@ -21,7 +21,7 @@ use Rattle.rules.proofs.Bytes.{bytes-drop}
 use Rattle.rules.proofs.Memory.{confirmed-kept}
 use Rattle.format.specs.File.{Version, settled, restored}
 use Rattle.codec.specs.Places.{buckets-size, rows-at}
-use Rattle.parse.specs.Places.{recents}
+use Rattle.tables.specs.Places.{recents}
 use Rattle.parse.specs.Says.{head-size, filed}
 use Rattle.parse.proofs.Held.{Held}
 use Rattle.settle.proofs.Bridge.{same-count, same-table}

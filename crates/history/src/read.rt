@@ -1,4 +1,5 @@
 // Reading a history file into the lent memory. Nothing is stored before the whole file is accepted.
+use header::Header;
 use kinds::BUCKETS_SIZE;
 use kinds::CONFIRMED_SIZE;
 use kinds::COUNTS;
@@ -10,13 +11,12 @@ use kinds::MAX_PENDING_ENTRIES;
 use kinds::ReadAnswer;
 use kinds::Reading;
 use kinds::State;
-use parse::Header;
 use parse::check;
 use parse::header_len;
 use parse::load_buckets;
-use parse::record_size;
 use reader::part;
 use settle::load_table;
+use version::record_size;
 ghost use mathlib.Core.Path.{_≡_};
 ghost use Prim.Native.Nat.{_≤_};
 ghost use lib.ListN.{length};

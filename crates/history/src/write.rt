@@ -12,7 +12,7 @@ use kinds::WriteAnswer;
 use kinds::Written;
 use parse::header_len;
 use parse::put_header;
-use parse::record_size;
+use version::record_size;
 ghost use mathlib.Core.Path.{_≡_};
 ghost use mathlib.Core.Bool.{true};
 ghost use Prim.Native.Nat.{_≤_};

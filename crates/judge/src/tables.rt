@@ -39,7 +39,7 @@ fn judge_table(table: &[u8], size: usize, most: usize, used: usize) -> bool
     if cap < used {
         return false;
     }
-    if table::ids_rise(table, size, used) {
+    if ids::ids_rise(table, size, used) {
         zero_between(table, used * size, cap * size)
     } else {
         false

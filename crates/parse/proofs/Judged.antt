@@ -11,8 +11,9 @@ use Rattle.format.specs.Parts.{bad, good, ended, is-read}
 use Rattle.format.specs.File.{Version, rates, read-buckets, read-tables, read-history}
 use Rattle.codec.specs.Places.{buckets-size}
 use Rattle.codec.proofs.Rated.{both-rows}
-use Rattle.parse.specs.Says.{tables-say, head-size, filed}
-use Rattle.parse.specs.declared.tables.Sizes.{Sizes}
+use Rattle.tables.specs.Says.{tables-say}
+use Rattle.parse.specs.Says.{head-size, filed}
+use Rattle.tables.specs.declared.Sizes.{Sizes}
 use Rattle.parse.proofs.Whole.{Headed, with-tables, file-tables}
 
 module _ (v : Version) (s : List ℕ) (last : Last) (h : Headed v s last) (at : ℕ) (e : at ≡ head-size v last)

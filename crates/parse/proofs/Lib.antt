@@ -1,11 +1,7 @@
 -- Laws of reading a file.
 
--- bytes are the same as a number's exactly when their number is
-pub mod Same
--- what the parts of the header read
-pub mod Header
--- what the tables read
-pub mod Listed
+-- what putting the header leaves
+pub mod Putting
 -- the file, told by places
 pub mod Whole
 -- its tables good or bad

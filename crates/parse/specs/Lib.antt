@@ -1,6 +1,4 @@
--- What the answers of the reading say of a file.
+-- What the answer of the reading says of a file.
 
--- records at a place, over the version
-pub mod Places
--- headers, tables and whole files
+-- whole files
 pub mod Says

@@ -1,5 +1,4 @@
--- What the answers of the reading functions say of the file. Assumes nothing.
-use mathlib.Core.Bool.{cond}
+-- What the answer of the reading says of the whole file. Assumes nothing.
 use mathlib.Core.List.{List}
 use Prim.Native.Nat.{ℕ, _+_, _*_}
 use lib.ListN.{length}
@@ -8,27 +7,12 @@ use Rattle.kinds.specs.Answers.{bad-magic, unknown-version, corrupt}
 use Rattle.rules.specs.Ladder.{buckets}
 use Rattle.rules.specs.Estimator.{Estimator}
 use Rattle.format.specs.Parts.{Parsed, bad, good}
-use Rattle.format.specs.File.{Version, Tables, height-length}
+use Rattle.format.specs.File.{Version, height-length}
 use Rattle.codec.specs.Places.{buckets-size, rows-at}
-use Rattle.parse.specs.Places.{pendings, recents}
-use Rattle.parse.specs.declared.tables.Sizes.{Sizes}
+use Rattle.tables.specs.Places.{pendings, recents}
 use Rattle.parse.specs.declared.Checked.{Checked}
-use Rattle.parse.specs.declared.head.Header.{Header}
-use Rattle.parse.specs.declared.head.Header.the-variants.{BadMagic, UnknownVersion, Corrupt, Good}
-
--- the last height, or why the header is refused
-unfoldable pub header-says : Header → Parsed Last
-header-says BadMagic = bad bad-magic
-header-says (UnknownVersion v) = bad (unknown-version v)
-header-says Corrupt = bad corrupt
-header-says (Good last) = good last
-
--- the tables of the bytes s from `at` on
-unfoldable pub tables-say : Version → Sizes → List ℕ → ℕ → Parsed Tables
-tables-say v r s at =
-    cond (r .ok)
-    (good (record { pending = pendings v s (at + 4) (r .pending); recent = recents s (at + 4 + r .pending * v .records .size + 4) (r .recent) }))
-    (bad corrupt)
+use Rattle.header.specs.declared.Header.{Header}
+use Rattle.header.specs.declared.Header.the-variants.{BadMagic, UnknownVersion, Corrupt, Good}
 
 -- where the buckets begin
 abbrev pub head-size : Version → Last → ℕ

@@ -1,20 +1,17 @@
-// The history file: its header, put and read, its buckets and tables, and the whole of it, judged before anything is stored.
+// The history file: its header, put, its buckets, and the whole of it, judged before anything is stored.
 mod buckets;
 mod head;
-mod tables;
-mod version;
 
 use buckets::buckets_ok;
 pub use buckets::load_buckets;
-pub use head::Header;
 pub use head::header_len;
 pub use head::put_header;
-use head::read_header;
+use header::Header;
+use header::read_header;
 use kinds::BUCKETS_SIZE;
 use kinds::FileVersion;
 use kinds::Last;
 use tables::read_tables;
-pub use version::record_size;
 ghost use mathlib.Core.Path.{_≡_};
 ghost use Rattle.format.specs.Parts.{begun, good};
 ghost use Rattle.format.specs.File.{version-told, read-head, read-history};

@@ -16,7 +16,7 @@ use Rattle.rules.specs.Records.{joined}
 use Rattle.rules.specs.Estimator.{Estimator}
 use Rattle.rules.proofs.Ids.{same-eq}
 use Rattle.rules.proofs.Bytes.{length-bytes}
-use Rattle.parse.proofs.Same.{is-number}
+use Rattle.header.proofs.Same.{is-number}
 use Rattle.format.specs.Parts.{good}
 use Rattle.format.specs.File.{own-version, version-of, head-bytes, history-of, history-length, read-history}
 use Rattle.format.proofs.Back.{version-lawful}

@@ -13,12 +13,13 @@ use Rattle.rules.specs.Ids.{Id, same, rising, placed, dropped}
 use Rattle.rules.specs.Records.{records, laid, id-of}
 use Rattle.rules.proofs.Records.{Sized, and-left, and-right, length-records, sized-records}
 use Rattle.format.specs.File.{settled}
-use Rattle.table.specs.Search.{find-in}
-use Rattle.table.specs.declared.Found.{Found}
-use Rattle.table.specs.declared.Found.the-variants.{At, Gap}
-use Rattle.table.proofs.Search.{at-told}
+use Rattle.ids.specs.Search.{find-in}
+use Rattle.ids.specs.declared.Found.{Found}
+use Rattle.ids.specs.declared.Found.the-variants.{At, Gap}
+use Rattle.ids.proofs.Search.{at-told}
 use Rattle.table.proofs.View.{gap-any, at-set, map-set}
-use Rattle.table.proofs.Records.{getD-records, sized-set, sized-at}
+use Rattle.ids.proofs.Records.{getD-records}
+use Rattle.table.proofs.Records.{sized-set, sized-at}
 use Rattle.table.proofs.Holding.{Holds, holds-own, holds-length, holds-records, holds-then}
 
 -- ---- a record whose id is there

@@ -13,8 +13,9 @@ use Rattle.rules.specs.Ids.{Id, same}
 use Rattle.rules.specs.Records.{records, joined, id-of}
 use Rattle.rules.proofs.Records.{Sized, length-records, sized-records, joined-records, records-joined}
 use Rattle.table.specs.Edit.{Moved}
-use Rattle.table.proofs.Ids.{id32}
-use Rattle.table.proofs.Records.{getD-records, record-end, id-at, joined-snoc, sized-at}
+use Rattle.ids.proofs.Ids.{id32}
+use Rattle.ids.proofs.Records.{getD-records, record-end, id-at}
+use Rattle.table.proofs.Records.{joined-snoc, sized-at}
 use Rattle.settle.specs.Once.{once-after, once, Kept}
 
 -- the records in front, known by their bytes

@@ -18,7 +18,7 @@ pub fn load_table(table: &mut [u8], src: &[u8], size: usize, n: usize, room: usi
     ensures { λ _. ⌜ now (table .exit) ≡ laid size room (settled id-of [] (records size n (now (src .entry)))) (now (table .entry)) ⌝ }
 {
     mem::put_bytes(table, 0, &src[..n * size]);
-    if table::ids_rise(table, size, n) {
+    if ids::ids_rise(table, size, n) {
         mem::zero(table, n * size, room * size);
         return n;
     }

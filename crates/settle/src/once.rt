@@ -1,5 +1,5 @@
 // Of neighbours with one id the first stays.
-use table::Order;
+use ids::Order;
 ghost use mathlib.Core.Path.{_≡_};
 ghost use mathlib.Core.Bool.{not};
 ghost use Prim.Native.Nat.{_+_, _*_, _-_, _≤_, _<_};
@@ -14,7 +14,7 @@ fn same_ids(table: &[u8], p: usize, q: usize) -> bool
     requires { ⌜ (p + 32 ≤ length (now table)) × (q + 32 ≤ length (now table)) ⌝ }
     ensures { λ r. ⌜ r ≡ same (take 32 (drop p (now (table .entry)))) (take 32 (drop q (now (table .entry)))) ⌝ }
 {
-    match table::compare(table, p, table, q) {
+    match ids::compare(table, p, table, q) {
         Order::Less => false,
         Order::Equal => true,
         Order::Greater => false,

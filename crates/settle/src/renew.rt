@@ -1,5 +1,5 @@
 // Records put where their ids stand already.
-use table::Found;
+use ids::Found;
 ghost use mathlib.Core.Path.{_≡_};
 ghost use mathlib.Core.Bool.{true};
 ghost use mathlib.Core.List.{map};
@@ -18,7 +18,7 @@ fn renew(table: &mut [u8], size: usize, used: usize, rec: &[u8])
     requires { ⌜ any (λ r. same (id-of r) (id-of (now rec))) (records size used (now table)) ≡ true ⌝ }
     ensures { λ _. ⌜ now (table .exit) ≡ laid size used (placed id-of (now (rec .entry)) (records size used (now (table .entry)))) (now (table .entry)) ⌝ }
 {
-    if let Found::At(i) = table::find(table, size, used, &rec[..32]) {
+    if let Found::At(i) = ids::find(table, size, used, &rec[..32]) {
         mem::put_bytes(table, i * size, rec);
     }
 }

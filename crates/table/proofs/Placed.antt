@@ -9,10 +9,10 @@ use lib.Seq.{sets}
 use Rattle.rules.specs.Ids.{rising, placed, dropped}
 use Rattle.rules.specs.Records.{records, id-of, laid}
 use Rattle.rules.proofs.Records.{length-records}
-use Rattle.table.specs.Search.{find-in}
-use Rattle.table.specs.declared.Found.the-variants.{At}
+use Rattle.ids.specs.Search.{find-in}
+use Rattle.ids.specs.declared.Found.the-variants.{At}
 use Rattle.table.proofs.Laid.{record-bytes}
-use Rattle.table.proofs.Search.{at-told}
+use Rattle.ids.proofs.Search.{at-told}
 use Rattle.table.proofs.View.{at-set}
 
 module _ (size used at : ℕ) (rec xs : List ℕ) (up : rising (map id-of (records size used xs)) ≡ true) (f : find-in (id-of rec) (map id-of (records size used xs)) ≡ At at) where

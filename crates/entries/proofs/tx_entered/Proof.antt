@@ -15,9 +15,9 @@ use Rattle.rules.specs.Records.{capacity}
 use Rattle.rules.specs.Memory.{pending-capacity, sound-pending}
 use Rattle.rules.proofs.Rates.{bucket-lt, low-of, high-of}
 use Rattle.rules.proofs.Memory.{pending-table, pending-within}
-use Rattle.table.specs.declared.Found.the-variants.{Gap}
+use Rattle.ids.specs.declared.Found.the-variants.{Gap}
 use Rattle.rules.proofs.Bytes.{are-bytes}
-use Rattle.table.proofs.ById.{searchable, told, gap-used}
+use Rattle.by_id.proofs.ById.{searchable, told, gap-used}
 use Rattle.entries.proofs.Answered.{Given, Ends, one-more, enter-damaged, enter-low, enter-there, enter-full, enter-done}
 use borrow.Author.Needs.{needs}
 use Rattle.entries.proofs.tx_entered.Statement.{statement}

@@ -2,7 +2,8 @@
 use mathlib.Core.Path.{sym, ap, _∙_}
 use Rattle.kinds.specs.Answers.{bad-magic, unknown-version, corrupt}
 use Rattle.parse.proofs.Whole.{head-refused}
-use Rattle.parse.specs.Says.{header-says, file-says, said}
+use Rattle.header.specs.Says.{header-says}
+use Rattle.parse.specs.Says.{file-says, said}
 use borrow.Author.Needs.{needs}
 use Rattle.parse.proofs.check.Statement.{statement}
 use Rattle.parse.proofs.check.Tie as tie

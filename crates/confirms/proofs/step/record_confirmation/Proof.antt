@@ -14,10 +14,10 @@ use Rattle.rules.specs.Records.{records, id-of, sound-table}
 use Rattle.rules.specs.Estimator.{find}
 use Rattle.rules.specs.Memory.{pending-records}
 use Rattle.ready.proofs.Facts.{confirmed-places, resolved-places, pending-sound, recent-sound}
-use Rattle.table.specs.Search.{find-in}
-use Rattle.table.specs.declared.Found.the-variants.{At}
+use Rattle.ids.specs.Search.{find-in}
+use Rattle.ids.specs.declared.Found.the-variants.{At}
 use Rattle.table.proofs.Edited.{are-bytes}
-use Rattle.table.proofs.ById.{searchable, told, in-table, there, found, lost, removed}
+use Rattle.by_id.proofs.ById.{searchable, told, in-table, there, found, lost, removed}
 use Rattle.confirms.proofs.Stepped.{bucket-fits, room-for-it, unlisted, counted}
 use borrow.Author.Needs.{needs}
 use Rattle.confirms.proofs.step.record_confirmation.Statement.{statement}

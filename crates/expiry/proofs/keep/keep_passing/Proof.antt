@@ -5,7 +5,7 @@ use native.Mathlib.Omega.{arith}
 use denote.Ref.{now}
 use native.Mathlib.Nat.{mul-le-mul-right}
 use Rattle.expiry.specs.Fields.{passing}
-use Rattle.table.proofs.Records.{record-end}
+use Rattle.ids.proofs.Records.{record-end}
 use Rattle.table.proofs.Keeping.{Keeping, keeping-none, keeping-more, keeping-end}
 use Rattle.expiry.proofs.keep.keep_passing.Statement.{statement}
 use Rattle.expiry.proofs.keep.keep_passing.Tie as tie

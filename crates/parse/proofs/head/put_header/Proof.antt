@@ -5,7 +5,7 @@ use Prim.Native.Nat.{ℕ, _+_}
 use lib.Seq.{sets}
 use Rattle.rules.specs.Bytes.{bytes}
 use Rattle.format.specs.File.{version-told, last-bytes}
-use Rattle.parse.proofs.Header.{put-head}
+use Rattle.parse.proofs.Putting.{put-head}
 use borrow.Author.Needs.{needs}
 use Rattle.parse.proofs.head.put_header.Statement.{statement}
 use Rattle.parse.proofs.head.put_header.Tie as tie

@@ -7,7 +7,7 @@ use lib.Seq.{sets}
 use Rattle.kinds.specs.declared.Last.{Last}
 use Rattle.rules.specs.Bytes.{bytes}
 use Rattle.format.specs.File.{height-length, last-bytes}
-use Rattle.parse.proofs.Header.{put-none, put-at}
+use Rattle.parse.proofs.Putting.{put-none, put-at}
 use borrow.Author.Needs.{needs}
 use Rattle.parse.proofs.head.put_last.Statement.{statement}
 use Rattle.parse.proofs.head.put_last.Tie as tie

@@ -3,7 +3,7 @@
 use Prim.Native.Nat.{_-_}
 use native.Mathlib.Omega.{arith}
 use denote.Ref.{now}
-use Rattle.table.proofs.Records.{record-end}
+use Rattle.ids.proofs.Records.{record-end}
 use Rattle.settle.proofs.Thinning.{Thinning, kept-none, thinning-none, thinning-more, thinning-end}
 use Rattle.settle.proofs.once.drop_repeats.Statement.{statement}
 use Rattle.settle.proofs.once.drop_repeats.Tie as tie

@@ -13,7 +13,7 @@ use denote.Ref.{now}
 use Rattle.lists.proofs.Part.{next-part}
 use Rattle.rules.specs.Ids.{Id, same}
 use Rattle.rules.specs.Records.{id-of}
-use Rattle.table.proofs.Ids.{id32}
+use Rattle.ids.proofs.Ids.{id32}
 use Rattle.table.proofs.Keeping.{moved-stays, moved-goes}
 use Rattle.settle.proofs.once.keep_other.Statement.{statement}
 use Rattle.settle.proofs.once.keep_other.Tie as tie

@@ -4,7 +4,7 @@ use mathlib.Core.Path.{sym, ap, _∙_}
 use borrow.Author.Needs.{needs}
 use Rattle.rules.specs.Ids.{same}
 use Rattle.rules.proofs.Ids.{same-refl}
-use Rattle.table.proofs.Ids.{cmp-equal, cmp-above}
+use Rattle.ids.proofs.Ids.{cmp-equal, cmp-above}
 use Rattle.table.proofs.View.{under-apart, over-apart}
 use Rattle.settle.proofs.once.same_ids.Statement.{statement}
 use Rattle.settle.proofs.once.same_ids.Tie as tie

@@ -9,9 +9,9 @@ use lib.Seq.{length-take-le}
 use borrow.Author.Needs.{needs}
 use denote.Ref.{now}
 use Rattle.rules.specs.Records.{records, id-of}
-use Rattle.table.specs.Search.{find-in}
-use Rattle.table.specs.declared.Found.the-variants.{At}
-use Rattle.table.proofs.Records.{record-end}
+use Rattle.ids.specs.Search.{find-in}
+use Rattle.ids.specs.declared.Found.the-variants.{At}
+use Rattle.ids.proofs.Records.{record-end}
 use Rattle.table.proofs.View.{gap-any}
 use Rattle.table.proofs.Placed.{at-within, at-bytes}
 use Rattle.settle.proofs.renew.renew.Statement.{statement}

@@ -5,7 +5,7 @@ use Prim.Native.Nat.{_+_, _*_, _-_, _≤_, _<_}
 use native.Mathlib.Omega.{arith}
 use lib.ListN.{length}
 use denote.Ref.{now}
-use Rattle.table.proofs.Records.{record-end}
+use Rattle.ids.proofs.Records.{record-end}
 use Rattle.settle.proofs.Renewing.{Renewing, renewing-none, part-is, part-long, length-renewing, renewing-up, renewing-there, renewing-more, renewing-end}
 use Rattle.settle.proofs.renew.renew_all.Statement.{statement}
 use Rattle.settle.proofs.renew.renew_all.Tie as tie

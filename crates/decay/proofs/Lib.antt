@@ -1,0 +1,4 @@
+-- Laws of the decay.
+
+-- rows that are not stored
+pub mod Skipped

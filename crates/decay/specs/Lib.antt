@@ -1,0 +1,4 @@
+-- The decay of a row.
+
+-- one row times the factor
+pub mod Decay

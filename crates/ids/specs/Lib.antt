@@ -1,0 +1,4 @@
+-- Ids among records.
+
+-- where an id stands or belongs
+pub mod Search

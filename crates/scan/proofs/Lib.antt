@@ -1,0 +1,4 @@
+-- Laws of the scan.
+
+-- the sums on the way down
+pub mod Scanning

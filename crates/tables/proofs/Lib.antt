@@ -1,0 +1,4 @@
+-- Laws of reading the tables.
+
+-- what the tables read
+pub mod Reading
