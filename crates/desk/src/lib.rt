@@ -1,9 +1,8 @@
 // What a line of a script does to a board's lent memory and to its state, and what it is answered with. The page of scripts is the definition; what a
 // line says comes from `lines`, and the replies are printed by the program `replay`.
 // `lays`: what is done to the lent memory itself. `calls`: the estimator's calls.
-mod calls;
-mod lays;
-
+use calls::Done;
+use calls::Reply;
 use calls::block;
 use calls::enter;
 use calls::leave;
@@ -12,29 +11,13 @@ use calls::start;
 use calls::state_in;
 use kinds::Horizon;
 use kinds::State;
-use lays::clear;
-use lays::lay_bytes;
-use lays::lay_count;
+use lays::lay;
 use lines::Line;
-use lines::Operation;
+use page::Operation;
 ghost use mathlib.Core.Path.{_≡_};
 ghost use Rattle.rules.specs.Slices.{before, after};
-ghost use Rattle.desk.specs.Desk.{did, silent, line-does};
-pub use lays::fill;
-
-// What a line is answered with: nothing, a number, or a number and what it carries.
-pub enum Reply {
-    Silent,
-    Number(u32),
-    Carrying(u32, u64),
-}
-
-// What a line has done: whether it fits the lent memory, what it is answered with, and the state after it.
-pub struct Done {
-    pub fits: bool,
-    pub reply: Reply,
-    pub state: State,
-}
+ghost use Rattle.calls.specs.Calls.{did};
+ghost use Rattle.desk.specs.Desk.{silent, line-does};
 
 // A line without an answer.
 fn silent(fits: bool, state: State) -> Done
@@ -65,12 +48,6 @@ pub fn change(
     let of = line.operation;
     match of {
         Operation::Unfit => silent(false, state),
-        Operation::Lend => {
-            clear(pending, recent, confirmed, resolved);
-            silent(true, state)
-        }
-        Operation::Byte => silent(lay_bytes(line, text, pending, recent), state),
-        Operation::Count => silent(lay_count(line, confirmed, resolved), state),
         Operation::State => silent(true, state_in(line)),
         Operation::Start => start(state, pending, recent, confirmed, resolved, on),
         Operation::Enter => enter(line, state, text, pending, on),
@@ -81,6 +58,6 @@ pub fn change(
         Operation::Read | Operation::Again => {
             read(state, text, pending, recent, confirmed, resolved, on)
         }
-        _ => silent(true, state),
+        _ => silent(lay(line, text, pending, recent, confirmed, resolved), state),
     }
 }

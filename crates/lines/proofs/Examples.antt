@@ -13,9 +13,9 @@ use Rattle.rules.specs.Lists.{every}
 use Rattle.script.specs.Words.{word-from}
 use Rattle.script.specs.Digits.{digit, value-after, number-after, number-of}
 use Rattle.script.specs.Hex.{is-hex, is-id, pattern-of}
-use Rattle.lines.specs.Page.{found, operation-of, allowed}
+use Rattle.page.specs.Page.{found, operation-of, allowed}
 use Rattle.lines.specs.Lines.{last-of, bits-of, one-of, any-of, ids-from, take-word, take-ids, take-field, bare, with-fields, passed-over, line-of}
-use Rattle.lines.specs.declared.page.Operation.{Operation}
+use Rattle.page.specs.declared.page.Operation.{Operation}
 use Rattle.lines.specs.declared.lines.Line.{Line}
 
 -- a text's ASCII codes

@@ -14,13 +14,13 @@ use Rattle.kinds.specs.declared.Horizon.{Horizon}
 use Rattle.script.specs.Words.{word-from}
 use Rattle.script.specs.declared.numbers.Number.{Number}
 use Rattle.script.specs.declared.words.Word.{Word}
-use Rattle.lines.specs.Page.{allowed, fields-of}
+use Rattle.page.specs.Page.{allowed, fields-of}
 use Rattle.lines.specs.Lines.{value-of, text-of, behind, take-word, take-field, before-fields, bare, with-fields, passed-over, line-of}
-use Rattle.lines.specs.declared.page.Operation.{Operation}
-use Rattle.lines.specs.declared.page.Field.{Field}
-use Rattle.lines.specs.declared.page.Fields.{Fields}
+use Rattle.page.specs.declared.page.Operation.{Operation}
+use Rattle.page.specs.declared.page.Field.{Field}
+use Rattle.page.specs.declared.page.Fields.{Fields}
 use Rattle.lines.specs.declared.lines.Taken.{Taken}
-use Rattle.lines.proofs.page.Field as field
+use Rattle.page.proofs.page.Field as field
 
 -- ---- one field
 

@@ -11,10 +11,10 @@ use Rattle.script.specs.Digits.{number-of}
 use Rattle.script.specs.Hex.{some-bytes, is-id, pattern-of}
 use Rattle.script.specs.declared.numbers.Number.{Number}
 use Rattle.script.specs.declared.words.Word.{Word}
-use Rattle.lines.specs.Words.{Text, narrow, wide, pending, confirmed, resolved, nan, dash}
-use Rattle.lines.specs.Page.{allowed, fields-of, most-history, most-short, most-ids}
-use Rattle.lines.specs.declared.page.Operation.{Operation}
-use Rattle.lines.specs.declared.page.Field.{Field}
+use Rattle.page.specs.Words.{Text, narrow, wide, pending, confirmed, resolved, nan, dash}
+use Rattle.page.specs.Page.{allowed, fields-of, most-history, most-short, most-ids}
+use Rattle.page.specs.declared.page.Operation.{Operation}
+use Rattle.page.specs.declared.page.Field.{Field}
 use Rattle.lines.specs.declared.lines.Line.{Line}
 use Rattle.lines.specs.declared.lines.Taken.{Taken}
 

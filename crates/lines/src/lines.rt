@@ -1,14 +1,14 @@
 // A line of a script: its operation, and what its fields say.
-use crate::limits::MOST_HISTORY;
-use crate::limits::MOST_IDS;
-use crate::limits::MOST_SHORT;
-use crate::page::Field;
-use crate::page::Operation;
-use crate::page::allowed;
-use crate::page::fields_of;
-use crate::page::is;
 use kinds::Horizon;
 use kinds::ID_SIZE;
+use page::Field;
+use page::MOST_HISTORY;
+use page::MOST_IDS;
+use page::MOST_SHORT;
+use page::Operation;
+use page::allowed;
+use page::fields_of;
+use page::is;
 use script::hex::is_hex;
 use script::hex::pattern_in;
 use script::numbers::Number;
@@ -18,7 +18,7 @@ use script::words::word_at;
 ghost use mathlib.Core.Path.{_≡_};
 ghost use Prim.Native.Nat.{_<_};
 ghost use Rattle.script.specs.Hex.{some-bytes};
-ghost use Rattle.lines.specs.Page.{most-ids};
+ghost use Rattle.page.specs.Page.{most-ids};
 ghost use Rattle.lines.specs.Lines.{last-of, bits-of, one-of, any-of, placed, value-of, ids-from, behind, take-field, bare, with-fields, line-of, asked};
 
 // A line: its operation, and the values of its fields in their order. The value of bytes in digits, and of ids, is where they begin; of a last height

@@ -3,13 +3,13 @@
 // `run`: line by line. `asks`: what changes nothing. `says`: what is written. `parts`: numbers and slices cut to what there is.
 use libc::STDIN_FILENO;
 use libc::STDOUT_FILENO;
-use lines::MOST_COUNTS;
-use lines::MOST_HISTORY;
-use lines::MOST_PENDING;
-use lines::MOST_RECENT;
-use lines::MOST_SCRIPT;
-use lines::MOST_WIDE_PENDING;
-use lines::MOST_WIDE_RECENT;
+use page::MOST_COUNTS;
+use page::MOST_HISTORY;
+use page::MOST_PENDING;
+use page::MOST_RECENT;
+use page::MOST_SCRIPT;
+use page::MOST_WIDE_PENDING;
+use page::MOST_WIDE_RECENT;
 ghost use mathlib.Core.Path.{_≡_};
 ghost use lib.ListN.{length};
 

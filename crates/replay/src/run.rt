@@ -5,17 +5,17 @@ use crate::parts::ends;
 use crate::parts::front;
 use crate::says::say_end;
 use crate::says::say_reply;
-use desk::Done;
+use calls::Done;
 use desk::change;
+use gathers::gather;
 use kinds::Horizon;
 use kinds::State;
 use lines::Line;
-use lines::MOST_COUNTS;
-use lines::MOST_PENDING;
-use lines::MOST_RECENT;
-use lines::Operation;
 use lines::asked;
-use lines::gather;
+use page::MOST_COUNTS;
+use page::MOST_PENDING;
+use page::MOST_RECENT;
+use page::Operation;
 
 // What a run keeps of a board.
 struct Loan {

@@ -1,5 +1,5 @@
 // What is written: each word as soon as it is known.
-use desk::Reply;
+use calls::Reply;
 use kinds::BucketIndex;
 use kinds::Estimated;
 use kinds::Last;

@@ -7,7 +7,7 @@ use borrow.Author.Tests.{not-true, not-false}
 use borrow.Author.Needs.{needs}
 use denote.Ref.{now}
 use lib.ListN.{length}
-use Rattle.lines.specs.Page.{most-ids}
+use Rattle.page.specs.Page.{most-ids}
 use Rattle.lines.specs.Lines.{ids-from}
 use Rattle.lines.proofs.Listed.{begins, ended, full, next-id, no-id}
 use Rattle.lines.proofs.lines.ids_fit.Statement.{statement}

@@ -7,7 +7,7 @@ use denote.Ref.{now}
 use Rattle.script.specs.Digits.{number-of}
 use Rattle.script.specs.declared.numbers.Number.{Number}
 use Rattle.script.proofs.Reading.{at-most}
-use Rattle.lines.specs.Page.{most-short}
+use Rattle.page.specs.Page.{most-short}
 use Rattle.lines.specs.Lines.{last-of}
 use Rattle.lines.proofs.lines.last_in.Statement.{statement}
 use Rattle.lines.proofs.lines.last_in.Tie as tie

@@ -11,7 +11,7 @@ use denote.Ref.{now}
 use lib.Dec.{ltb}
 use lib.ListN.{length}
 use Rattle.lines.specs.Lines.{bare, with-fields}
-use Rattle.lines.specs.declared.page.Operation.{Operation}
+use Rattle.page.specs.declared.page.Operation.{Operation}
 use Rattle.lines.proofs.Taking.{taken}
 use Rattle.lines.proofs.lines.with_fields.Statement.{statement}
 use Rattle.lines.proofs.lines.with_fields.Tie as tie

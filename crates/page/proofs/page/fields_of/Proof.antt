@@ -1,0 +1,50 @@
+-- `page::page::fields_of` meets its contract.
+-- Assumes nothing.
+use borrow.Author.Needs.{needs}
+use Rattle.page.proofs.page.fields_of.Statement.{statement}
+use Rattle.page.proofs.page.fields_of.Tie as tie
+
+pub fields-of-spec : {M : Type 1} → statement M
+fields-of-spec =
+    tie.close
+    (tie.spec
+    (λ c κs. search needs)
+    (λ c κs. search needs)
+    (λ c. search needs)
+    (λ c. search needs)
+    (λ c. search needs)
+    (λ c. search needs)
+    (λ c. search needs)
+    (λ c. search needs)
+    (λ c. search needs)
+    (λ c. search needs)
+    (λ c. search needs)
+    (λ c. search needs)
+    (λ c. search needs)
+    (λ c. search needs)
+    (λ c. search needs)
+    (λ c. search needs)
+    (λ c. search needs)
+    (λ c. search needs)
+    (λ c. search needs)
+    (λ c. search needs)
+    (λ c. search needs)
+    (λ c. rw (c .enum-told .given .1))
+    (λ c. rw (c .enum-told2 .given .1, c .before .before .most-recent .ensures, c .before .before .before .most-pending .ensures))
+    (λ c. rw (c .enum-told3 .given .1))
+    (λ c. rw (c .enum-told4 .given .1))
+    (λ c. rw (c .enum-told5 .given .1))
+    (λ c. rw (c .enum-told6 .given .1))
+    (λ c. rw (c .enum-told7 .given .1))
+    (λ c. rw (c .enum-told8 .given .1))
+    (λ c. rw (c .enum-told9 .given .1))
+    (λ c. rw (c .enum-told10 .given .1))
+    (λ c. rw (c .enum-told11 .given .1))
+    (λ c. rw (c .enum-told12 .given .1))
+    (λ c. rw (c .enum-told13 .given .1))
+    (λ c. rw (c .enum-told14 .given .1))
+    (λ c. rw (c .enum-told15 .given .1))
+    (λ c. rw (c .enum-told16 .given .1))
+    (λ c. rw (c .enum-told17 .given .1))
+    (λ c. rw (c .enum-told18 .given .1))
+    (λ c. rw (c .enum-told19 .given .1)))

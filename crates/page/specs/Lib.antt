@@ -1,0 +1,6 @@
+-- The scripts' page.
+
+-- its words, in ASCII codes
+pub mod Words
+-- its operations and their fields
+pub mod Page
