@@ -16,9 +16,9 @@ use Rattle.format.specs.File.{magic, read-last, read-start, read-after, read-he
 use Rattle.format.specs.Calls.{taken-in, read-call}
 use Rattle.print.specs.Page.{write}
 use Rattle.page.specs.declared.page.Operation.{Operation}
-use Rattle.lays.specs.Lays.{cleared, in-one, byte-lays, with-count, count-lays}
-use Rattle.calls.specs.declared.calls.Reply.{Reply}
-use Rattle.calls.specs.Calls.{Did, did, done, numbered, zeros, id-of, told, enter-does, leave-does, block-does, begun, start-does, carried, read-does}
+use Rattle.desk_lays.specs.Lays.{cleared, in-one, byte-lays, with-count, count-lays}
+use Rattle.desk_calls.specs.declared.calls.Reply.{Reply}
+use Rattle.desk_calls.specs.Calls.{Did, did, done, numbered, zeros, id-of, told, enter-does, leave-does, block-does, begun, start-does, carried, read-does}
 use Rattle.desk.specs.Desk.{silent, in-pending, byte-does, count-does, operation-does, line-does}
 
 -- the state before each line

@@ -12,8 +12,8 @@ use Rattle.page.specs.declared.page.Operation.{Operation}
 use Rattle.page.proofs.page.Operation as operation
 use Rattle.page.proofs.Places.{at, placed}
 use Rattle.lines.specs.declared.lines.Line.{Line}
-use Rattle.lays.specs.Lays.{Lain, operation-lays}
-use Rattle.calls.specs.Calls.{Did, did, block-does, read-does}
+use Rattle.desk_lays.specs.Lays.{Lain, operation-lays}
+use Rattle.desk_calls.specs.Calls.{Did, did, block-does, read-does}
 use Rattle.desk.specs.Desk.{silent, operation-does, byte-does, count-does}
 
 -- a line that did this to the lent memory itself, and nothing else

@@ -7,10 +7,10 @@ use Rattle.kinds.specs.declared.State.{State}
 use Rattle.rules.specs.Memory.{Lent, lent}
 use Rattle.page.specs.declared.page.Operation.{Operation}
 use Rattle.lines.specs.declared.lines.Line.{Line}
-use Rattle.lays.specs.Lays.{cleared, byte-lays, count-lays}
-use Rattle.calls.specs.declared.calls.Reply.{Reply}
-use Rattle.calls.specs.declared.calls.Done.{Done}
-use Rattle.calls.specs.Calls.{Did, did, done, state-of, enter-does, leave-does, block-does, start-does, read-does}
+use Rattle.desk_lays.specs.Lays.{cleared, byte-lays, count-lays}
+use Rattle.desk_calls.specs.declared.calls.Reply.{Reply}
+use Rattle.desk_calls.specs.declared.calls.Done.{Done}
+use Rattle.desk_calls.specs.Calls.{Did, did, done, state-of, enter-does, leave-does, block-does, start-does, read-does}
 
 -- no answer
 abbrev pub silent : Bool → State → Done

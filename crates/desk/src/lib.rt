@@ -1,22 +1,22 @@
 // What a line of a script does to a board's lent memory and to its state, and what it is answered with. The page of scripts is the definition; what a
 // line says comes from `lines`, and the replies are printed by the program `replay`.
-// `lays`: what is done to the lent memory itself. `calls`: the estimator's calls.
-use calls::Done;
-use calls::Reply;
-use calls::block;
-use calls::enter;
-use calls::leave;
-use calls::read;
-use calls::start;
-use calls::state_in;
+// What is done to the lent memory itself is in `desk_lays`, and the estimator's calls are in `desk_calls`.
+use desk_calls::Done;
+use desk_calls::Reply;
+use desk_calls::block;
+use desk_calls::enter;
+use desk_calls::leave;
+use desk_calls::read;
+use desk_calls::start;
+use desk_calls::state_in;
+use desk_lays::lay;
 use kinds::Horizon;
 use kinds::State;
-use lays::lay;
 use lines::Line;
 use page::Operation;
 ghost use mathlib.Core.Path.{_≡_};
 ghost use Rattle.rules.specs.Slices.{before, after};
-ghost use Rattle.calls.specs.Calls.{did};
+ghost use Rattle.desk_calls.specs.Calls.{did};
 ghost use Rattle.desk.specs.Desk.{silent, line-does};
 
 // A line without an answer.

@@ -23,7 +23,7 @@ use kinds::MAX_CONF_TARGET;
 use kinds::State;
 use kinds::WriteAnswer;
 use ladder::bucket_index_for_rate;
-use lays::fill;
+use desk_lays::fill;
 use lines::Line;
 use page::Operation;
 use print::put;

@@ -5,7 +5,7 @@ use crate::parts::ends;
 use crate::parts::front;
 use crate::says::say_end;
 use crate::says::say_reply;
-use calls::Done;
+use desk_calls::Done;
 use desk::change;
 use gathers::gather;
 use kinds::Horizon;

@@ -1,5 +1,5 @@
 // What is written: each word as soon as it is known.
-use calls::Reply;
+use desk_calls::Reply;
 use kinds::BucketIndex;
 use kinds::Estimated;
 use kinds::Last;

@@ -4,7 +4,7 @@ use mathlib.Core.Bool.{true}
 use borrow.Author.Needs.{needs}
 use Rattle.rules.specs.Slices.{given}
 use Rattle.page.specs.declared.page.Operation.{Operation}
-use Rattle.calls.proofs.Telling.{both}
+use Rattle.desk_calls.proofs.Telling.{both}
 use Rattle.desk.specs.Desk.{silent, in-pending, operation-does}
 use Rattle.desk.proofs.Rows.{fitted, by, blocks, reads, others}
 use Rattle.desk.proofs.change.Statement.{statement}
