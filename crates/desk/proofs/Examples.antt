@@ -16,10 +16,10 @@ use Rattle.format.specs.File.{magic, read-last, read-start, read-after, read-he
 use Rattle.format.specs.Calls.{taken-in, read-call}
 use Rattle.print.specs.Page.{write}
 use Rattle.page.specs.declared.page.Operation.{Operation}
-use Rattle.desk_lays.specs.Lays.{cleared, in-one, byte-lays, with-count, count-lays}
+use Rattle.desk_lays.specs.Lays.{cleared, in-one, byte-lays, with-count, count-lays, operation-lays}
 use Rattle.desk_calls.specs.declared.calls.Reply.{Reply}
 use Rattle.desk_calls.specs.Calls.{Did, did, done, numbered, zeros, id-of, told, enter-does, leave-does, block-does, begun, start-does, carried, read-does}
-use Rattle.desk.specs.Desk.{silent, in-pending, byte-does, count-does, operation-does, line-does}
+use Rattle.desk.specs.Desk.{silent, in-pending, operation-does, line-does}
 
 -- the state before each line
 abbrev run : State
@@ -47,7 +47,7 @@ bytes : does Operation.Byte 0 1 0 (8 ∷ 9 ∷ []) ∷ does Operation.Byte 0 2 0
     ∷ did (silent true run) little
     ∷ did (silent false run) little
     ∷ []
-unfolding operation-does byte-does byte-lays in-one write
+unfolding operation-does operation-lays byte-lays in-one write
 bytes = refl
 
 -- ---- count
@@ -58,7 +58,7 @@ counts : does Operation.Count 0 0 9218868437227405312 [] ∷ does Operation.Coun
     ∷ did (silent false run) little
     ∷ did (silent true run) (lent (nought ∷ []) (inf true ∷ nan ∷ []) (1 ∷ 2 ∷ 3 ∷ []) (4 ∷ 5 ∷ []))
     ∷ []
-unfolding operation-does count-does count-lays in-one with-count ofBits
+unfolding operation-does operation-lays count-lays in-one with-count ofBits
 counts = refl
 
 -- ---- lend, state, and lines that do nothing
@@ -72,7 +72,7 @@ others : does Operation.Lend 3 2 1 [] ∷ does Operation.State 0 5 6 [] ∷ does
     ∷ did (silent true run) little
     ∷ did (silent false run) little
     ∷ []
-unfolding operation-does cleared
+unfolding operation-does operation-lays cleared
 others = refl
 
 -- ---- calls

@@ -12,13 +12,9 @@ use Rattle.page.specs.declared.page.Operation.{Operation}
 use Rattle.page.proofs.page.Operation as operation
 use Rattle.page.proofs.Places.{at, placed}
 use Rattle.lines.specs.declared.lines.Line.{Line}
-use Rattle.desk_lays.specs.Lays.{Lain, operation-lays}
-use Rattle.desk_calls.specs.Calls.{Did, did, block-does, read-does}
-use Rattle.desk.specs.Desk.{silent, operation-does, byte-does, count-does}
-
--- a line that did this to the lent memory itself, and nothing else
-abbrev pub fitted : State → Lain → Did Lent
-fitted s m = did (silent (m .fits) s) (m .lent)
+use Rattle.desk_lays.specs.Lays.{operation-lays}
+use Rattle.desk_calls.specs.Calls.{Did, block-does, read-does}
+use Rattle.desk.specs.Desk.{on-memory, operation-does}
 
 module _ (on : Horizon) (of : Operation) (line : Line) (s : State) (text : List ℕ) (l : Lent) where
   -- the row of an operation
@@ -30,9 +26,9 @@ module _ (on : Horizon) (of : Operation) (line : Line) (s : State) (text : List 
   row k e = ap (λ (o : Operation). operation-does on o line s text l) (placed of ∙ ap at e)
 
   -- the same beside what is done to the lent memory itself
-  alike : (k : ℕ) → operation-does on (at k) line s text l ≡ fitted s (operation-lays (at k) line text l) → tagOf operation.the-type of ≡ k
-      → operation-does on of line s text l ≡ fitted s (operation-lays of line text l)
-  alike k p e = row k e ∙ p ∙ sym (ap (λ (o : Operation). fitted s (operation-lays o line text l)) (placed of ∙ ap at e))
+  alike : (k : ℕ) → operation-does on (at k) line s text l ≡ on-memory s (operation-lays (at k) line text l) → tagOf operation.the-type of ≡ k
+      → operation-does on of line s text l ≡ on-memory s (operation-lays of line text l)
+  alike k p e = row k e ∙ p ∙ sym (ap (λ (o : Operation). on-memory s (operation-lays o line text l)) (placed of ∙ ap at e))
 
   -- `block` and `blockraw`
   pub blocks : OneOf (10 ∷ 11 ∷ []) (tagOf operation.the-type of) → operation-does on of line s text l ≡ block-does on line s text l
@@ -46,7 +42,7 @@ module _ (on : Horizon) (of : Operation) (line : Line) (s : State) (text : List 
 
   -- the other lines change at most the lent memory itself
   pub others : OneOf (1 ∷ 2 ∷ 3 ∷ 4 ∷ 5 ∷ 12 ∷ 13 ∷ 14 ∷ 15 ∷ 18 ∷ []) (tagOf operation.the-type of)
-      → operation-does on of line s text l ≡ fitted s (operation-lays of line text l)
-  unfolding operation-does operation-lays byte-does count-does
+      → operation-does on of line s text l ≡ on-memory s (operation-lays of line text l)
+  unfolding operation-does
   others h =
       ⊎-elim (alike 1 refl) (⊎-elim (alike 2 refl) (⊎-elim (alike 3 refl) (⊎-elim (alike 4 refl) (⊎-elim (alike 5 refl) (⊎-elim (alike 12 refl) (⊎-elim (alike 13 refl) (⊎-elim (alike 14 refl) (⊎-elim (alike 15 refl) (alike 18 refl))))))))) h

@@ -1,6 +1,6 @@
 -- Enter and leave over plain lists: the answers of the code, test by test, are the definitions'. An enter at the floor or above searches a sound table for the
--- id: where the search ends at a record the id is pending, and where it ends in a gap it is not. A leave counts what is left: as many records as before where the id was not pending.
--- What either leaves is the rules' records, laid. Assumes nothing.
+-- id: where the search ends at a record the id is pending, and where it ends in a gap it is not. A leave counts what is left: as many records as before where
+-- the id was not pending. What either leaves is the rules' records, laid. Assumes nothing.
 use mathlib.Core.Path.{_≡_, refl, sym, ap, ap₂, _∙_}
 use mathlib.Core.Bool.{Bool, true, false, not, _||_, cond}
 use mathlib.Core.List.{List, [], _∷_, map}

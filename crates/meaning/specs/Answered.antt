@@ -34,8 +34,8 @@ unfoldable pub too-far : Last → ℕ → Bool
 too-far Nothing B = false
 too-far (At g) B = ltb (g .0 + 4096) B
 
--- The answer of the next call. Never 1. Enter: 16 if the rate is below the floor, else 2 if an admission of the id is pending, else 3 if as many are as the lent table holds. Leave: 4 if none
--- of the id is. Block: 5 by the list's length, else 6 by the last height, else 7 by the confirmed records, as document 01 has it.
+-- The answer of the next call. Never 1. Enter: 16 if the rate is below the floor, else 2 if an admission of the id is pending, else 3 if as many are as the lent
+-- table holds. Leave: 4 if none of the id is. Block: 5 by the list's length, else 6 by the last height, else 7 by the confirmed records, as document 01 has it.
 unfoldable pub foretold : Board → Log → Held → Call → Answer
 foretold k l x (enter i rate h) =
     cond (ltb (rate .0) floor) below-floor

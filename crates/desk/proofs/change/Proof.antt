@@ -5,8 +5,8 @@ use borrow.Author.Needs.{needs}
 use Rattle.rules.specs.Slices.{given}
 use Rattle.page.specs.declared.page.Operation.{Operation}
 use Rattle.desk_calls.proofs.Telling.{both}
-use Rattle.desk.specs.Desk.{silent, in-pending, operation-does}
-use Rattle.desk.proofs.Rows.{fitted, by, blocks, reads, others}
+use Rattle.desk.specs.Desk.{silent, in-pending, on-memory, operation-does}
+use Rattle.desk.proofs.Rows.{by, blocks, reads, others}
 use Rattle.desk.proofs.change.Statement.{statement}
 use Rattle.desk.proofs.change.Tie as tie
 
@@ -39,7 +39,7 @@ returns-7 c = c .before .before .before .before .before .before .before .before 
 returns-8 : tie.Need-returns-8
 returns-8 c =
     let a = c .before .before .before .before .before .before .before .before .before .before .before .before .before .before .before .before .before .before .before .before .args in
-    both _ _ _ _ (c .silent3 .ensures) refl ∙ ap (fitted (a .state)) (c .before .before .before .before .before .before .before .before .before .lay .ensures) ∙ sym (others _ _ _ _ _ _ (c .before .before .before .before .before .before .before .before .before .before .before .before .before .before .match .keys8))
+    both _ _ _ _ (c .silent3 .ensures) refl ∙ ap (on-memory (a .state)) (c .before .before .before .before .before .before .before .before .before .lay .ensures) ∙ sym (others _ _ _ _ _ _ (c .before .before .before .before .before .before .before .before .before .before .before .before .before .before .match .keys8))
 
 pub change-spec : {M : Type 1} → statement M
 change-spec =
