@@ -112,7 +112,7 @@ impl Row {
         let judge = move || {
             let library = estimator.judged().expect("the original judges nothing");
             let refused = match call {
-                Call::Enter => library.try_tx_entered(there, 5_000, HEIGHT).is_err(),
+                Call::Enter => library.try_tx_entered(there, izrughem::FLOOR - 1, HEIGHT).is_err(),
                 Call::Leave => library.try_tx_left(&izrughem::Txid([0; 32])).is_err(),
                 Call::Block(_) | Call::Gap(_) => library.try_block_step(&[], HEIGHT + izrughem::WIDEST_GAP + 1).is_err(),
                 Call::Estimate(targets) => (0..targets).all(|_| library.try_estimate(black_box(0)) == Ok(None)),
