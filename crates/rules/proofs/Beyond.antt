@@ -2,7 +2,7 @@
 use mathlib.Core.Path.{_≡_, refl, sym, ap, ap₂, _∙_, subst}
 use mathlib.Core.Bool.{Bool, true, false, _&&_, not, cond, true≢false}
 use mathlib.Core.List.{List}
-use Prim.Native.Nat.{ℕ, _+_, _%_}
+use Prim.Native.Nat.{ℕ, _%_}
 use lib.Dec.{ltb, eqb}
 use lib.ListN.{length, take, take-append-drop}
 use lib.Ieee.{Float}
@@ -19,9 +19,8 @@ use Rattle.rules.specs.Board.{Board, Pending, confirmed-size, pending-mo
 use Rattle.rules.specs.Estimator.{Estimator, fresh, is-pending, admit, without, block-connected}
 use Rattle.rules.specs.Estimate.{estimate}
 use Rattle.rules.specs.Memory.{Lent, enough, pending-capacity, confirmed-capacity, pending-records, sound-counts, sound-pending, sound, view, state-of}
-use Rattle.rules.specs.Calls.{Outcome, outcome, refused, accepted, accepted-pending, gap, widest-gap, ids-of, pending-listings, start-call, enter-call, leave-call, block-call, rate-answer, estimate-call}
+use Rattle.rules.specs.Calls.{Outcome, outcome, refused, accepted, accepted-pending, gap, widest-gap, ids-of, held-once-listed, start-call, enter-call, leave-call, block-call, rate-answer, estimate-call}
 use Rattle.rules.specs.Beyond.{Cut, Confined, pending-room, confirmed-room, of-lent, of-pending, BeyondPromise}
-use Rattle.rules.proofs.Listed.{listings-of}
 use Rattle.rules.proofs.Inner.{same-places, same-pending, same-sound-pending, same-lay-pending, same-all, same-view, same-lay, same-enough, same-counts, same-estimate, long-enough}
 
 -- o is an outcome on l, and p the same on what stands within it
@@ -77,10 +76,10 @@ module _ (k : Board) where
       (λ h.
       let p = not-false (sound k s l) h in
       let places = same-places confirmed-size confirmed-most (l .recent) in
-      let listed = listings-of k s (of-lent k .inner l) (view k s l) (ids-of ids) (same-view k l s p) ∙ sym (listings-of k s l (view k s l) (ids-of ids) refl) in
+      let listed = ap (held-once-listed k (ids-of ids) (B .0)) (same-view k l s p) in
       choose (not (eqb (length ids % 32) 0)) _ refl (refused-met l bad-list s)
       (λ _. choose (ltb widest-gap (gap (s .last) B)) _ refl (refused-met l gap-too-wide s)
-      (λ _. choose (ltb (confirmed-capacity (l .recent)) (s .recent + pending-listings k s l (ids-of ids))) _ (ap₂ (λ (m n : ℕ). ltb m (s .recent + n)) places listed) (refused-met l confirmed-full s)
+      (λ _. choose (ltb (confirmed-capacity (l .recent)) (held-once-listed k (ids-of ids) (B .0) (view k s l))) _ (ap₂ ltb places listed) (refused-met l confirmed-full s)
       (λ _. subst (λ (e : Estimator). Met (of-lent k) l (accepted k (block-connected k (ids-of ids) (B .0) (view k s l)) l) (accepted k (block-connected k (ids-of ids) (B .0) e) (of-lent k .inner l))) (sym (same-view k l s p)) (laid-met l (block-connected k (ids-of ids) (B .0) (view k s l)))))))
 
   -- ---- of the pending table alone

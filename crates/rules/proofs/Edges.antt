@@ -56,8 +56,12 @@ abbrev pub three : Float → Float → Float → Counts
 three x y z = x ∷ replicate (columns - 1) nought ++ (y ∷ replicate (columns - 1) nought) ++ (z ∷ replicate (places-of-counts - 2 * columns - 1) nought)
 
 -- a pending record whose entry height is the greatest
-abbrev pub late : ℕ → List ℕ
-late t = id 1 ++ (33 ∷ 0 ∷ 0 ∷ 0 ∷ 255 ∷ 255 ∷ 255 ∷ 255 ∷ t ∷ 0 ∷ 0 ∷ 0 ∷ [])
+abbrev pub late : ℕ → ℕ → List ℕ
+late n t = id n ++ (33 ∷ 0 ∷ 0 ∷ 0 ∷ 255 ∷ 255 ∷ 255 ∷ 255 ∷ t ∷ 0 ∷ 0 ∷ 0 ∷ [])
+
+-- a confirmed record whose height is the greatest
+abbrev pub high : ℕ → List ℕ
+high n = id n ++ (255 ∷ 255 ∷ 255 ∷ 255 ∷ [])
 
 -- x after n heights of a board, rounded at each
 unfoldable pub decayed : Board → ℕ → Float → Float
@@ -108,16 +112,47 @@ edges =
     ∷ says (connects (state Nothing 0 2) (memory [] (confirmed 1 5 ++ confirmed 1 5)) [] 101) 1 []
     ∷ says (connects (state Nothing 0 2) (memory [] (confirmed 2 5 ++ confirmed 1 5)) [] 101) 1 []
     ∷ says (connects (state Nothing 0 1) (memory [] (confirmed 1 5 ++ confirmed 2 5)) [] 101) 1 []
-    -- 5 before 6; 6 before 7; 7 where confirmed records and listings (each counted) exceed the two places
+    -- 5 before 6; 6 before 7; 7 where more confirmed records would be held than there are places
     ∷ says (connects (state Nothing 1 0) one-pending (0 ∷ id 1) 101) 5 []
     ∷ says (connects (state (at 100) 1 0) one-pending (0 ∷ id 1) 9999) 5 []
-    ∷ says (connects (state (at 100) 1 0) one-pending (id 1 ++ id 1 ++ id 1) 4197) 6 []
-    ∷ says (connects (state (at 100) 1 0) one-pending (id 1 ++ id 1 ++ id 1) 4196) 7 []
-    ∷ says (connects (state Nothing 1 0) one-pending (id 1 ++ id 1) 101) 0 []
-    ∷ says (connects (state Nothing 1 0) one-pending (id 1 ++ id 2 ++ id 2) 101) 0 []
-    -- 7 counts the records that are there before the call, also one that height 101 would prune: two records and two places, and three
-    ∷ says (connects (state (at 100) 1 2) (memory (pending 1 33 0) (confirmed 2 100 ++ confirmed 3 50)) (id 1) 102) 7 []
-    ∷ says (connects (state (at 100) 1 2) (memory (pending 1 33 0) (confirmed 2 100 ++ confirmed 3 50 ++ zeros 36)) (id 1) 102) 0 []
+    ∷ says (connects (state (at 100) 1 1) (memory (late 1 0) (confirmed 2 255)) (0 ∷ id 1) 101) 5 []
+    ∷ says (connects (state (at 100) 1 1) (memory (late 1 0) (high 2)) (id 1) 4197) 6 []
+    ∷ says (connects (state (at 100) 1 1) (memory (late 1 0) (high 2)) (id 1) 4196) 7 []
+    ∷ says (connects (state (at 100) 1 1) (memory (late 1 0) (high 2 ++ zeros 36)) (id 1) 4196) 0 []
+    -- an id listed three times counts once, beside another too; one that is not pending needs no room
+    ∷ says (connects (state Nothing 1 0) (memory (pending 1 33 0) (zeros 36)) (id 1 ++ id 1 ++ id 1) 101) 0 []
+    ∷ says (connects (state Nothing 1 0) (memory (pending 1 33 0) []) (id 1 ++ id 1 ++ id 1) 101) 7 []
+    ∷ says (connects (state Nothing 2 0) (memory (pending 1 33 0 ++ pending 2 33 0) (zeros 72)) (id 1 ++ id 2 ++ id 1) 101) 0 []
+    ∷ says (connects (state Nothing 2 0) (memory (pending 1 33 0 ++ pending 2 33 0) (zeros 36)) (id 1 ++ id 2 ++ id 1) 101) 7 []
+    ∷ says (connects (state Nothing 1 1) (memory (pending 1 33 0) (confirmed 2 100)) (id 3 ++ id 2) 101) 0 []
+    ∷ says (connects (state Nothing 1 1) (memory (pending 1 33 0) (confirmed 2 100)) (id 3 ++ id 1) 101) 7 []
+    -- one that still has a record after the skipped heights needs none, whether of another height or of the block's own; with a record of another id there is no room
+    ∷ says (connects (state (at 100) 1 1) (memory (pending 1 33 0) (confirmed 1 99)) (id 1) 103) 0 []
+    ∷ says (connects (state (at 100) 1 1) (memory (pending 1 33 0) (confirmed 1 103)) (id 1) 103) 0 []
+    ∷ says (connects (state (at 100) 1 1) (memory (pending 1 33 0) (confirmed 2 99)) (id 1) 103) 7 []
+    -- but one whose record they prune needs a place again: of ids 1 and 3, and the record of 2, that is the third
+    ∷ says (connects (state (at 101) 2 2) (memory (late 1 0 ++ late 3 0) (confirmed 1 100 ++ confirmed 2 101)) (id 1 ++ id 3) 127) 7 []
+    ∷ says (connects (state (at 101) 2 2) (memory (late 1 0 ++ late 3 0) (confirmed 1 100 ++ confirmed 2 101 ++ zeros 36)) (id 1 ++ id 3) 127) 0 []
+    -- the skipped heights make room: a record of height 100 stays at 125 and goes at 126; the block's own height makes none
+    ∷ says (connects (state (at 101) 1 1) (memory (late 1 0) (confirmed 2 100)) (id 1) 127) 0 []
+    ∷ says (connects (state (at 101) 1 1) (memory (late 1 0) (confirmed 2 100)) (id 1) 126) 7 []
+    ∷ says (connects (state (at 125) 1 1) (memory (late 1 0) (confirmed 2 100)) (id 1) 126) 7 []
+    ∷ says (connects (state (at 125) 1 1) (memory (late 1 0) (confirmed 2 100)) (id 1) 127) 0 []
+    -- without skipped heights nothing is pruned: at the next height, at the first block, at one that repeats the last height or falls
+    ∷ says (connects (state (at 200) 1 1) (memory (late 1 0) (confirmed 2 100)) (id 1) 201) 7 []
+    ∷ says (connects (state (at 200) 1 1) (memory (late 1 0) (confirmed 2 100)) (id 1) 202) 0 []
+    ∷ says (connects (state Nothing 1 1) (memory (late 1 0) (confirmed 2 100)) (id 1) 202) 7 []
+    ∷ says (connects (state (at 200) 1 1) (memory (late 1 0) (confirmed 2 100)) (id 1) 200) 7 []
+    ∷ says (connects (state (at 200) 1 1) (memory (late 1 0) (confirmed 2 100)) (id 1) 150) 7 []
+    -- one that expires in them needs no room: entered at 100 it goes at 125, so before a block at 126 after 101, and not before one at 125
+    ∷ says (connects (state (at 101) 1 1) (memory (pending 1 33 1) (confirmed 2 200)) (id 1) 126) 0 []
+    ∷ says (connects (state (at 101) 1 1) (memory (pending 1 33 1) (confirmed 2 200)) (id 1) 125) 7 []
+    ∷ says (connects (state (at 124) 1 1) (memory (pending 1 33 24) (confirmed 2 200)) (id 1) 125) 7 []
+    -- resolved-through 25 goes at the next height, which must be a skipped one
+    ∷ says (connects (state (at 100) 1 1) (memory (pending 1 33 25) (confirmed 2 200)) (id 1) 101) 7 []
+    ∷ says (connects (state (at 100) 1 1) (memory (pending 1 33 25) (confirmed 2 200)) (id 1) 102) 0 []
+    ∷ says (connects (state Nothing 1 1) (memory (pending 1 33 25) (confirmed 2 200)) (id 1) 102) 7 []
+    ∷ leaves-tables (state (at 100) 1 1) (memory (pending 1 33 25) (confirmed 2 200)) (id 1) 102 (zeros 44 ++ (7 ∷ 7 ∷ 7 ∷ [])) (confirmed 2 200 ++ (9 ∷ [])) 0 1
     -- gap 4,096 runs; 4,097 is refused; no last height is no gap
     ∷ says (connects (state (at 100) 1 0) one-pending [] 4196) 0 []
     ∷ says (connects (state (at 100) 1 0) one-pending [] 4197) 6 []
@@ -132,9 +167,9 @@ edges =
     ∷ leaves-tables (state (at 126) 0 1) (memory (zeros 88) (confirmed 1 101 ++ zeros 36)) [] 127 (zeros 88 ++ (7 ∷ 7 ∷ 7 ∷ [])) (zeros 72 ++ (9 ∷ [])) 0 0
     ∷ leaves-tables (state (at 5) 0 1) (memory (zeros 88) (confirmed 1 200 ++ zeros 36)) [] 6 (zeros 88 ++ (7 ∷ 7 ∷ 7 ∷ [])) (confirmed 1 200 ++ zeros 36 ++ (9 ∷ [])) 0 1
     -- an entry height above the block's: nothing expires, a wait of 1 is counted; resolved-through 25 goes at the next advance
-    ∷ leaves-tables (state (at 9) 1 0) (memory (late 5 ++ zeros 44) (zeros 72)) [] 10 (late 5 ++ zeros 44 ++ (7 ∷ 7 ∷ 7 ∷ [])) (zeros 72 ++ (9 ∷ [])) 1 0
-    ∷ leaves-tables (state (at 9) 1 0) (memory (late 25 ++ zeros 44) (zeros 72)) [] 10 (zeros 88 ++ (7 ∷ 7 ∷ 7 ∷ [])) (zeros 72 ++ (9 ∷ [])) 0 0
-    ∷ leaves-counts (state (at 9) 1 0) (memory (late 5 ++ zeros 44) (zeros 72)) (id 1) 10 33 (replicate columns (decimal 998 1000)) (replicate 5 nought ++ replicate 20 (decimal 998 1000))
+    ∷ leaves-tables (state (at 9) 1 0) (memory (late 1 5 ++ zeros 44) (zeros 72)) [] 10 (late 1 5 ++ zeros 44 ++ (7 ∷ 7 ∷ 7 ∷ [])) (zeros 72 ++ (9 ∷ [])) 1 0
+    ∷ leaves-tables (state (at 9) 1 0) (memory (late 1 25 ++ zeros 44) (zeros 72)) [] 10 (zeros 88 ++ (7 ∷ 7 ∷ 7 ∷ [])) (zeros 72 ++ (9 ∷ [])) 0 0
+    ∷ leaves-counts (state (at 9) 1 0) (memory (late 1 5 ++ zeros 44) (zeros 72)) (id 1) 10 33 (replicate columns (decimal 998 1000)) (replicate 5 nought ++ replicate 20 (decimal 998 1000))
     -- skipped heights one by one: entered at 100, last height 100, block 103, unlisted: target 1 decays three times, 2 twice, 3 once
     ∷ leaves-counts (state (at 100) 1 0) one-pending [] 103 33 (replicate columns nought) (decayed base 3 one ∷ decayed base 2 one ∷ decayed base 1 one ∷ replicate 22 nought)
     -- 3.0 through those heights is rounded three times: one multiplication by a power gives another number

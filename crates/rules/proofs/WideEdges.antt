@@ -9,7 +9,7 @@ use Rattle.rules.specs.Counts.{Counts, columns, nought, one}
 use Rattle.rules.specs.Board.{wide}
 use Rattle.rules.specs.Memory.{Lent}
 use Rattle.rules.proofs.Edge.{id, enters-at, leaves, connects, estimates, Edge, says, leaves-tables, leaves-counts, only}
-use Rattle.rules.proofs.Edges.{zeros, pending, confirmed, memory, one-pending, state, at, first-count, decayed}
+use Rattle.rules.proofs.Edges.{zeros, pending, late, confirmed, high, memory, one-pending, state, at, first-count, decayed}
 
 -- one, n heights later
 abbrev after : ℕ → Float
@@ -48,6 +48,16 @@ wide-edges =
     -- the gap of 4,096 is the base board's
     ∷ says (connects (state (at 100) 1 0) one-pending [] 4196) 0 []
     ∷ says (connects (state (at 100) 1 0) one-pending [] 4197) 6 []
+    -- what expires in the skipped heights needs no room: entered at 100 it goes at 250, so before a block at 251 after 248, and not before one at 250
+    ∷ says (connects (state (at 248) 1 1) (memory (pending 1 33 24) (high 2)) (id 1) 251) 0 []
+    ∷ says (connects (state (at 248) 1 1) (memory (pending 1 33 24) (high 2)) (id 1) 250) 7 []
+    ∷ says (connects (state (at 101) 1 1) (memory (pending 1 33 0) (high 2)) (id 1) 126) 7 []
+    -- resolved-through 25 goes at the next height, which must be a skipped one
+    ∷ says (connects (state (at 100) 1 1) (memory (pending 1 33 25) (high 2)) (id 1) 101) 7 []
+    ∷ says (connects (state (at 100) 1 1) (memory (pending 1 33 25) (high 2)) (id 1) 102) 0 []
+    -- they make room after 25 blocks, as on the base board, and the block's own height makes none
+    ∷ says (connects (state (at 101) 1 1) (memory (late 1 0) (confirmed 2 100)) (id 1) 127) 0 []
+    ∷ says (connects (state (at 101) 1 1) (memory (late 1 0) (confirmed 2 100)) (id 1) 126) 7 []
     -- a count of column 1: targets 1 to 6 have its rate, 0 none, and 7 is the next column's
     ∷ says (estimates (first-count one) (first-count one) 0) 0 []
     ∷ says (estimates (first-count one) (first-count one) 1) 0 (1000 ∷ [])
