@@ -17,18 +17,19 @@ use Rattle.rules.specs.Lists.{count}
 use Rattle.rules.specs.Ids.{Id, same}
 use Rattle.rules.specs.Ladder.{floor}
 use Rattle.rules.specs.Board.{Board, Pending, Lawful}
-use Rattle.rules.specs.Estimator.{is-pending, admit, block-connected}
+use Rattle.rules.specs.Estimator.{Estimator, is-pending, admit, block-connected}
 use Rattle.rules.specs.Estimate.{estimate}
 use Rattle.rules.specs.Memory.{Lent, pending-capacity, confirmed-capacity, pending-records, sound-counts, sound-pending, sound, view}
-use Rattle.rules.specs.Calls.{Outcome, refused, accepted, accepted-pending, enter-call, leave-call, gap, widest-gap, ids-of, pending-listings, block-call, rate-answer, estimate-call}
+use Rattle.rules.specs.Calls.{Outcome, refused, accepted, accepted-pending, enter-call, leave-call, gap, widest-gap, ids-of, held-once-listed, block-call, rate-answer, estimate-call}
 use Rattle.rules.proofs.Records.{and-left, and-right}
 use Rattle.floats.specs.Factor.{Factor}
 use Rattle.meaning.specs.Runs.{Log, last-of, Rising, singly, Call, enter, leave, connect, Held, outcome-of, calls}
 use Rattle.meaning.specs.Fates.{admissions, pends, Meant}
-use Rattle.meaning.specs.Answered.{waiting, too-far, foretold, Answered, AnswerPromise}
+use Rattle.meaning.specs.Answered.{run, waiting, too-far, foretold, Answered, AnswerPromise}
 use Rattle.meaning.proofs.Counting.{bool-ext, any-count, count-ext, count-length}
 use Rattle.meaning.proofs.Living.{and-true}
-use Rattle.rules.proofs.Memory.{pending-length}
+use Rattle.rules.proofs.Memory.{pending-length, view-of-lay}
+use Rattle.rules.proofs.Sound.{well-fits}
 use Rattle.meaning.proofs.Leading.{Comes, comes}
 use Rattle.meaning.proofs.Meaning.{meant}
 use Rattle.meaning.proofs.Estimates.{estimates}
@@ -59,7 +60,7 @@ gap-is (At g) B =
     (λ t. lt→ltb (g .0 + 4096) (B .0) (omega (arith, ltb→lt widest-gap (B .0 - g .0) t)))
     (λ t. lt→ltb widest-gap (B .0 - g .0) (omega (arith, ltb→lt (g .0 + 4096) (B .0) t)))
 
-module _ (k : Board) (pos : 0 < k .width) (l : Log) (x : Held) (n : Meant k l x) (q : sound k (x .state) (x .memory) ≡ true) where
+module _ (k : Board) (pos : 0 < k .width) (l : Log) (x : Held) (n : Meant k l x) (q : sound k (x .state) (x .memory) ≡ true) (seen : view k (x .state) (x .memory) ≡ run k (x .log)) where
   abbrev rs : List Pending
   rs = pending-records k (x .state .pending) (x .memory .pending)
 
@@ -105,20 +106,19 @@ module _ (k : Board) (pos : 0 < k .width) (l : Log) (x : Held) (n : Meant k l x)
       ∙ ap (λ (w : Bool). cond w done absent) (same-waiting i)
 
   block-is : (ids : List ℕ) (B : Height) → outcome-of k (connect ids B) x .answer ≡ foretold k l x (connect ids B)
-  unfolding outcome-of block-call foretold pending-listings
+  unfolding outcome-of block-call foretold
   block-is ids B =
       let bad = not (eqb (length ids % 32) 0) in
       let far = ltb widest-gap (gap (x .state .last) B) in
-      let listed = count (λ i. is-pending i rs) (ids-of ids) in
-      let over = ltb (confirmed-capacity (x .memory .recent)) (x .state .recent + listed) in
+      let over = ltb (confirmed-capacity (x .memory .recent)) (held-once-listed k (ids-of ids) (B .0) (view k (x .state) (x .memory))) in
       let next = accepted k (block-connected k (ids-of ids) (B .0) (view k (x .state) (x .memory))) (x .memory) in
       let rest = cond over (refused confirmed-full (x .state) (x .memory)) next in
       after-sound (sound k (x .state) (x .memory)) bad _ _ _ q
       ∙ ap (cond bad bad-list) (after-test far (refused gap-too-wide (x .state) (x .memory)) rest)
       ∙ ap (λ (a : Answer). cond bad bad-list (cond far gap-too-wide a)) (after-test over (refused confirmed-full (x .state) (x .memory)) next)
-      ∙ ap₂ (λ (t : Bool) (c : ℕ). cond bad bad-list (cond t gap-too-wide (cond (ltb (confirmed-capacity (x .memory .recent)) (x .state .recent + c)) confirmed-full done)))
+      ∙ ap₂ (λ (t : Bool) (e : Estimator). cond bad bad-list (cond t gap-too-wide (cond (ltb (confirmed-capacity (x .memory .recent)) (held-once-listed k (ids-of ids) (B .0) e)) confirmed-full done)))
       (ap (λ (y : Last). ltb widest-gap (gap y B)) (n .last-is) ∙ gap-is (last-of l) B)
-      (count-ext (λ i. is-pending i rs) (waiting k l) same-waiting (ids-of ids))
+      seen
 
   answered : Answered k l x
   unfolding estimate-call sound
@@ -136,7 +136,9 @@ module _ (k : Board) (pos : 0 < k .width) (l : Log) (x : Held) (n : Meant k l x)
           rw (c, r)
 
 pub answers-of : (k : Board) → Lawful k → Factor (k .decay) → (m : Lent) (x : Held) → Comes k m x → Rising (x .log) → Answered k (singly (x .log)) x
-answers-of k law d m x c r = answered k (law .wide) (singly (x .log)) x (meant k law m x c r) (follows k d law m x c .sound-is)
+answers-of k law d m x c r =
+    answered k (law .wide) (singly (x .log)) x (meant k law m x c r) (follows k d law m x c .sound-is)
+    (ap (λ (y : Held). view k (y .state) (y .memory)) (c .is) ∙ view-of-lay k law (run k (x .log)) m (well-fits (c .live .well)))
 
 pub answer-promise : (k : Board) → Lawful k → Factor (k .decay) → AnswerPromise k
 unfolding AnswerPromise

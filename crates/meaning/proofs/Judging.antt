@@ -16,7 +16,7 @@ use Rattle.rules.specs.Ladder.{floor}
 use Rattle.rules.specs.Board.{Board}
 use Rattle.rules.specs.Estimator.{is-pending, without, admit, block-connected}
 use Rattle.rules.specs.Memory.{Lent, pending-capacity, confirmed-capacity, pending-records, sound-pending, sound, view}
-use Rattle.rules.specs.Calls.{Outcome, refused, accepted, accepted-pending, enter-call, leave-call, gap, widest-gap, ids-of, pending-listings, block-call}
+use Rattle.rules.specs.Calls.{Outcome, refused, accepted, accepted-pending, enter-call, leave-call, gap, widest-gap, ids-of, held-once-listed, block-call}
 use Rattle.rules.proofs.Memory.{pending-length, pending-within}
 use Rattle.rules.proofs.Placing.{Free}
 
@@ -51,10 +51,10 @@ module _ (k : Board) (s : State) where
       (λ p. unless absent refl (not (is-pending i (pending-records k (s .pending) xs))) (λ q. taken tt))
 
   pub block-judged : (l : Lent) (ids : List ℕ) (B : Height)
-      → Judged s l (accepted k (block-connected k (ids-of ids) (B .0) (view k s l)) l) (s .recent + pending-listings k s l (ids-of ids) ≤ confirmed-capacity (l .recent)) (block-call k s l ids B)
+      → Judged s l (accepted k (block-connected k (ids-of ids) (B .0) (view k s l)) l) (held-once-listed k (ids-of ids) (B .0) (view k s l) ≤ confirmed-capacity (l .recent)) (block-call k s l ids B)
   unfolding block-call
   block-judged l ids B =
       unless damaged refl (not (sound k s l))
       (λ p. unless bad-list refl (not (eqb (length ids % 32) 0))
       (λ q. unless gap-too-wide refl (ltb widest-gap (gap (s .last) B))
-      (λ r. unless confirmed-full refl (ltb (confirmed-capacity (l .recent)) (s .recent + pending-listings k s l (ids-of ids))) (λ t. taken (ltb-false _ _ t)))))
+      (λ r. unless confirmed-full refl (ltb (confirmed-capacity (l .recent)) (held-once-listed k (ids-of ids) (B .0) (view k s l))) (λ t. taken (ltb-false _ _ t)))))

@@ -4,6 +4,7 @@ use mathlib.Core.Path.{_≡_, refl, sym, ap, _∙_, subst}
 use mathlib.Core.Bool.{Bool, true, false, not, _&&_, cond}
 use mathlib.Core.List.{List, [], _∷_}
 use Prim.Native.Nat.{ℕ, suc, _+_, _≤_, _<_, zero-le}
+use native.Mathlib.Nat.{le-trans}
 use native.Mathlib.Omega.{arith}
 use lib.Dec.{eqb}
 use lib.ListN.{length}
@@ -17,14 +18,14 @@ use Rattle.rules.specs.Ladder.{floor}
 use Rattle.rules.specs.Board.{Board, Pending, pending-most, confirmed-most, Lawful}
 use Rattle.rules.specs.Estimator.{Estimator, fresh, is-pending, without, admit, with-pending, tx-entered, tx-left, block-connected}
 use Rattle.rules.specs.Memory.{Lent, pending-capacity, confirmed-capacity, pending-records, lay-pending, lay-confirmed, enough, view, state-of, lay}
-use Rattle.rules.specs.Calls.{Outcome, refused, accepted, start-call, accepted-pending, enter-call, leave-call, ids-of, pending-listings, block-call}
+use Rattle.rules.specs.Calls.{Outcome, refused, accepted, start-call, accepted-pending, enter-call, leave-call, ids-of, held-once-listed, block-call}
 use Rattle.rules.proofs.Rates.{not-below, below-next}
 use Rattle.rules.proofs.Listed.{ids-sized}
 use Rattle.rules.proofs.Memory.{Room, same-capacity, confirmed-kept, view-of-lay, lay-over}
 use Rattle.rules.proofs.Placing.{Free, admit-free}
 use Rattle.rules.proofs.Well.{newcomer, Well, well-fresh, well-entered, well-left, well-block}
 use Rattle.rules.proofs.Sound.{well-fits, Tabled, pending-seen, pending-places, pending-over}
-use Rattle.rules.proofs.Room.{length-insert, length-keep, within-block}
+use Rattle.rules.proofs.Room.{length-insert, length-keep, fewer-recent, fewer-pending}
 use Rattle.meaning.specs.Runs.{arrival, removal, block, Log, begin, _▸_, Call, enter, leave, connect, Typed, AllTyped, event-of, Held, with-table, outcome-of, noted, after, after-all, started, calls}
 use Rattle.meaning.specs.Answered.{run}
 use Rattle.meaning.specs.Floor.{Floored}
@@ -130,7 +131,7 @@ module _ (k : Board) (law : Lawful k) (m : Lent) (g : Log) (v : Live k m g) wher
       }
 
   block-leads : (ids : List ℕ) (h : Height) → Typed (connect ids h) → Leads k m (after k (connect ids h) (at k m g))
-  unfolding after outcome-of Typed run noted event-of lay lay-confirmed pending-listings state-of Floored
+  unfolding after outcome-of Typed run noted event-of lay lay-confirmed state-of Floored
   block-leads ids h t = go (block-call k s (lay k e m) ids h) (block-judged k s (lay k e m) ids h)
     where
       f : Estimator
@@ -139,22 +140,21 @@ module _ (k : Board) (law : Lawful k) (m : Lent) (g : Log) (v : Live k m g) wher
       same-full : confirmed-capacity (lay k e m .recent) ≡ confirmed-capacity (m .recent)
       same-full = same-capacity confirmed-kept confirmed-most (m .recent) (v .well .recent) (v .room .recent)
 
-      listed : pending-listings k s (lay k e m) (ids-of ids) ≡ count (λ i. is-pending i (e .pending)) (ids-of ids)
-      listed = ap (λ (rs : List Pending). count (λ i. is-pending i rs) (ids-of ids)) back
+      listed : held-once-listed k (ids-of ids) (h .0) (view k s (lay k e m)) ≡ held-once-listed k (ids-of ids) (h .0) e
+      listed = ap (held-once-listed k (ids-of ids) (h .0)) same-view
 
       go : (o : Outcome Lent)
-          → Judged s (lay k e m) (accepted k (block-connected k (ids-of ids) (h .0) (view k s (lay k e m))) (lay k e m)) (s .recent + pending-listings k s (lay k e m) (ids-of ids) ≤ confirmed-capacity (lay k e m .recent)) o
+          → Judged s (lay k e m) (accepted k (block-connected k (ids-of ids) (h .0) (view k s (lay k e m))) (lay k e m)) (held-once-listed k (ids-of ids) (h .0) (view k s (lay k e m)) ≤ confirmed-capacity (lay k e m .recent)) o
           → Leads k m (noted (connect ids h) o g)
       go o (turned a z) = stays a (connect ids h) z
       go o (taken q) =
-          let w = within-block k (ids-of ids) (h .0) e in
           record {
             to = g ▸ block (ids-of ids) (h .0);
             is = ap (λ (y : Estimator). record { state = state-of (block-connected k (ids-of ids) (h .0) y); memory = lay k (block-connected k (ids-of ids) (h .0) y) (lay k e m); log = g ▸ block (ids-of ids) (h .0) }) same-view
                 ∙ ap (λ (y : Lent). record { state = state-of f; memory = y; log = g ▸ block (ids-of ids) (h .0) }) (lay-over k law e f m (well-fits (v .well)) (v .room));
             live = record {
               well = well-block k (h .0) e (ids-sized ids) t (v .well);
-              room = record { pending = omega (arith, w .pending, v .room .pending); recent = omega (arith, w .recent, q, same-full, listed) };
+              room = record { pending = le-trans (fewer-pending k (ids-of ids) (h .0) e) (v .room .pending); recent = omega (arith, fewer-recent k (ids-of ids) (h .0) e, q, same-full, listed) };
               admitted = v .admitted;
               floored = v .floored;
             };

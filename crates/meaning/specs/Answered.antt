@@ -19,11 +19,18 @@ use Rattle.rules.specs.Board.{Board}
 use Rattle.rules.specs.Estimator.{Estimator, fresh, tx-entered, tx-left, block-connected}
 use Rattle.rules.specs.Estimate.{column-of, sums-down-to, estimate}
 use Rattle.rules.specs.Memory.{Lent, pending-capacity, confirmed-capacity, pending-records, sound, state-of, lay}
-use Rattle.rules.specs.Calls.{start-call, ids-of, rate-answer, estimate-call}
+use Rattle.rules.specs.Calls.{start-call, ids-of, held-once-listed, rate-answer, estimate-call}
 use Rattle.meaning.specs.Runs.{arrival, removal, block, Log, begin, _▸_, last-of, Rising, singly, Call, enter, leave, connect, AllTyped, Held, outcome-of, calls}
 use Rattle.meaning.specs.Fates.{Fate, undecided, withdrawn, counted, fate-of, Kind, in-resolved, in-confirmed, of-kind, admissions, tally, count-of, pends}
 
 -- ---- answers
+
+-- document 01's steps over a log
+unfoldable pub run : Board → Log → Estimator
+run k begin = fresh
+run k (l ▸ arrival i rate e) = tx-entered i rate e (run k l)
+run k (l ▸ removal i) = tx-left i (run k l)
+run k (l ▸ block ids h) = block-connected k ids h (run k l)
 
 -- an admission of i is pending
 unfoldable pub waiting : Board → Log → Id → Bool
@@ -35,7 +42,8 @@ too-far Nothing B = false
 too-far (At g) B = ltb (g .0 + 4096) B
 
 -- The answer of the next call. Never 1. Enter: 16 if the rate is below the floor, else 2 if an admission of the id is pending, else 3 if as many are as the lent
--- table holds. Leave: 4 if none of the id is. Block: 5 by the list's length, else 6 by the last height, else 7 by the confirmed records, as document 01 has it.
+-- table holds. Leave: 4 if none of the id is. Block: 5 by the list's length, else 6 by the last height, else 7 if the confirmed
+-- records that document 01's steps leave, once the list is in, are more than the lent table holds.
 unfoldable pub foretold : Board → Log → Held → Call → Answer
 foretold k l x (enter i rate h) =
     cond (ltb (rate .0) floor) below-floor
@@ -45,7 +53,7 @@ foretold k l x (leave i) = cond (waiting k l i) done absent
 foretold k l x (connect ids h) =
     cond (not (eqb (length ids % 32) 0)) bad-list
     (cond (too-far (last-of l) (h .0)) gap-too-wide
-    (cond (ltb (confirmed-capacity (x .memory .recent)) (x .state .recent + count (waiting k l) (ids-of ids))) confirmed-full done))
+    (cond (ltb (confirmed-capacity (x .memory .recent)) (held-once-listed k (ids-of ids) (h .0) (run k (x .log)))) confirmed-full done))
 
 -- ---- estimates
 
@@ -76,13 +84,6 @@ unfoldable pub AnswerPromise : Board → Type 0
 AnswerPromise k = (m : Lent) → start-call k m .answer ≡ done → (cs : List Call) → AllTyped cs → Rising (calls k m cs .log) → Answered k (singly (calls k m cs .log)) (calls k m cs)
 
 -- ---- what every run comes to, whether its blocks rise or not
-
--- document 01's steps over a log
-unfoldable pub run : Board → Log → Estimator
-run k begin = fresh
-run k (l ▸ arrival i rate e) = tx-entered i rate e (run k l)
-run k (l ▸ removal i) = tx-left i (run k l)
-run k (l ▸ block ids h) = block-connected k ids h (run k l)
 
 -- The memory m that was lent at the start, with the estimator of the log laid into it; and it is sound.
 pub record Follows (k : Board) (m : Lent) (x : Held) : Type 0 where

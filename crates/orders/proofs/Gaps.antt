@@ -3,7 +3,7 @@
 use mathlib.Core.Path.{_≡_, refl, sym, ap, _∙_, subst}
 use mathlib.Core.Bool.{Bool, true, false, not, _&&_, cond}
 use mathlib.Core.List.{List, [], _∷_}
-use Prim.Native.Nat.{ℕ, _+_, _-_, _%_, _^_, _≤_, _<_}
+use Prim.Native.Nat.{ℕ, _-_, _%_, _^_, _≤_, _<_}
 use native.Mathlib.Nat.{le-trans, lt-trans}
 use native.Mathlib.Omega.{arith}
 use lib.Dec.{leb, ltb, eqb}
@@ -13,23 +13,21 @@ use Rattle.kinds.specs.declared.Height.{Height}
 use Rattle.kinds.specs.declared.State.{State}
 use Rattle.kinds.specs.declared.Last.{Last}
 use Rattle.kinds.specs.Answers.{done, bad-list, gap-too-wide, confirmed-full}
-use Rattle.rules.specs.Lists.{count}
 use Rattle.rules.specs.Board.{Board, Lawful}
 use Rattle.rules.specs.Records.{records}
-use Rattle.rules.specs.Estimator.{Estimator, is-pending, block-connected}
+use Rattle.rules.specs.Estimator.{Estimator, confirm-all, block-connected}
 use Rattle.rules.specs.Memory.{Lent, confirmed-capacity, sound, view, state-of, lay}
-use Rattle.rules.specs.Calls.{Outcome, outcome, refused, accepted, gap, widest-gap, ids-of, block-call}
+use Rattle.rules.specs.Calls.{Outcome, outcome, refused, accepted, gap, widest-gap, ids-of, held-once-listed, block-call}
 use Rattle.rules.proofs.All.{none}
 use Rattle.rules.proofs.Memory.{Room, state-of-view, lay-of-view}
 use Rattle.rules.proofs.Records.{and-left, and-right}
 use Rattle.rules.proofs.Well.{Well, well-block}
 use Rattle.rules.proofs.Sound.{lay-sound}
-use Rattle.rules.proofs.Listed.{listings-of}
-use Rattle.rules.proofs.Room.{Within, within-none, then, count-le, within-block}
+use Rattle.rules.proofs.Room.{within-skip, fewer-recent, fewer-pending}
 use Rattle.floats.specs.Factor.{Factor}
 use Rattle.floats.proofs.Steady.{Steady, steady-block}
 use Rattle.ready.proofs.Ready.{seen, relaid, same-recent}
-use Rattle.ready.proofs.Stays.{Typed, counts-sound, steady, well, room, used-recent}
+use Rattle.ready.proofs.Stays.{Typed, counts-sound, steady, well, room}
 use Rattle.orders.specs.Gaps.{climbing, near, last-of, empty-steps, empty-calls, all-done, then-block, alone, Crossed, GapPromise}
 use Rattle.orders.proofs.Heights.{at, under, none-below, last-above, gap-steps}
 
@@ -40,28 +38,27 @@ module _ (k : Board) (law : Lawful k) (d : Factor (k .decay)) (l : Lent) where
     steady : Steady e
     room : Room k e l
 
+  -- a list of none makes no confirmed record
+  empty-room : (h : ℕ) (e : Estimator) → held-once-listed k [] h e ≤ length (e .recent)
+  unfolding held-once-listed confirm-all
+  empty-room h e = within-skip k (e .last) h e .recent
+
   fine-next : (h : ℕ) (e : Estimator) → h < 256 ^ 4 → Fine e → Fine (block-connected k [] h e)
-  unfolding count
   fine-next h e b f =
-      let w = within-block k [] h e in
       record {
         well = well-block k h e none b (f .well);
         steady = steady-block k d [] h e (f .steady);
-        room = record { pending = omega (arith, w .pending, f .room .pending); recent = omega (arith, w .recent, f .room .recent) };
+        room = record { pending = le-trans (fewer-pending k [] h e) (f .room .pending); recent = le-trans (fewer-recent k [] h e) (le-trans (empty-room h e) (f .room .recent)) };
       }
 
   -- ---- a block on memory that holds an estimator
-
-  -- confirmed records and listings, before the block
-  abbrev filled : List ℕ → Estimator → ℕ
-  filled ids e = length (e .recent) + count (λ i. is-pending i (e .pending)) (ids-of ids)
 
   -- it is refused, or leaves memory that holds the next one
   abbrev judged : List ℕ → Height → Estimator → Outcome Lent
   judged ids B e =
       cond (not (eqb (length ids % 32) 0)) (refused bad-list (state-of e) (lay k e l))
       (cond (ltb widest-gap (gap (e .last) B)) (refused gap-too-wide (state-of e) (lay k e l))
-      (cond (ltb (confirmed-capacity (l .recent)) (filled ids e)) (refused confirmed-full (state-of e) (lay k e l))
+      (cond (ltb (confirmed-capacity (l .recent)) (held-once-listed k (ids-of ids) (B .0) e)) (refused confirmed-full (state-of e) (lay k e l))
       (accepted k (block-connected k (ids-of ids) (B .0) e) l)))
 
   block-is : (ids : List ℕ) (B : Height) (e : Estimator) → Fine e → block-call k (state-of e) (lay k e l) ids B ≡ judged ids B e
@@ -71,7 +68,6 @@ module _ (k : Board) (law : Lawful k) (d : Factor (k .decay)) (l : Lent) where
       rw (
         lay-sound k law e l (f .well) (counts-sound (f .steady)) (f .room),
         same-recent k law e l (f .well) (f .room),
-        listings-of k (state-of e) (lay k e l) e (ids-of ids) v,
         v,
         relaid k law e (block-connected k (ids-of ids) (B .0) e) l (f .well) (f .room),
       )
@@ -79,22 +75,21 @@ module _ (k : Board) (law : Lawful k) (d : Factor (k .decay)) (l : Lent) where
   -- ---- one that lists nothing
 
   empty-is : (h L : ℕ) (e : Estimator) → Fine e → e .last ≡ at L → h - L ≤ widest-gap → block-call k (state-of e) (lay k e l) [] (record { 0 = h }) ≡ accepted k (block-connected k [] h e) l
-  unfolding gap ids-of records count
-  empty-is h L e f a n = block-is [] (record { 0 = h }) e f ∙ rw (a, le-ltb widest-gap (h - L) n, le-ltb (confirmed-capacity (l .recent)) (length (e .recent) + 0) (omega (arith, f .room .recent)))
+  unfolding gap ids-of records
+  empty-is h L e f a n = block-is [] (record { 0 = h }) e f ∙ rw (le-ltb (confirmed-capacity (l .recent)) (held-once-listed k [] h e) (le-trans (empty-room h e) (f .room .recent)), a, le-ltb widest-gap (h - L) n)
 
   -- ---- any number of them
 
-  -- what they lead to from an estimator: each is Done, and memory holds what document 01's steps leave, in which nothing is more than before
+  -- what they lead to from an estimator: each is Done, and memory holds what document 01's steps leave
   record Led (L : ℕ) (hs : List ℕ) (e : Estimator) : Type 0 where
     done-all : all-done k hs (state-of e) (lay k e l) ≡ true
     leaves : empty-calls k hs (state-of e) (lay k e l) ≡ outcome done (state-of (empty-steps k hs e)) (lay k (empty-steps k hs e) l)
     fine : Fine (empty-steps k hs e)
     last : empty-steps k hs e .last ≡ at (last-of L hs)
-    within : Within 0 e (empty-steps k hs e)
 
   leads : (hs : List ℕ) (L B : ℕ) (e : Estimator) → Fine e → e .last ≡ at L → climbing L hs B ≡ true → near L hs ≡ true → B < 256 ^ 4 → Led L hs e
-  unfolding all-done empty-calls empty-steps last-of climbing near count
-  leads [] L B e f a c n b = record { done-all = refl; leaves = refl; fine = f; last = a; within = within-none e }
+  unfolding all-done empty-calls empty-steps last-of climbing near
+  leads [] L B e f a c n b = record { done-all = refl; leaves = refl; fine = f; last = a }
   leads (h ∷ hs) L B e f a c n b =
       let p = ltb-true L h (and-left (ltb L h) _ c) in
       let c′ = and-right (ltb L h) _ c in
@@ -107,7 +102,6 @@ module _ (k : Board) (law : Lawful k) (d : Factor (k .decay)) (l : Lent) where
         leaves = ap (λ (o : Outcome Lent). empty-calls k hs (o .state) (o .lent)) i ∙ r .leaves;
         fine = r .fine;
         last = r .last;
-        within = then 0 0 e g (empty-steps k hs g) (within-block k [] h e) (r .within);
       }
 
   -- ---- and then a block
@@ -116,12 +110,12 @@ module _ (k : Board) (law : Lawful k) (d : Factor (k .decay)) (l : Lent) where
   record Passed (ids : List ℕ) (B : ℕ) (e : Estimator) : Type 0 where
     whole : eqb (length ids % 32) 0 ≡ true
     close : ltb widest-gap (gap (e .last) (record { 0 = B })) ≡ false
-    free : ltb (confirmed-capacity (l .recent)) (filled ids e) ≡ false
+    free : ltb (confirmed-capacity (l .recent)) (held-once-listed k (ids-of ids) B e) ≡ false
 
   passes : (ids : List ℕ) (B : ℕ) (e : Estimator) → judged ids (record { 0 = B }) e .answer .number ≡ 0 → Passed ids B e
-  passes ids B e z = go (eqb (length ids % 32) 0) (ltb widest-gap (gap (e .last) (record { 0 = B }))) (ltb (confirmed-capacity (l .recent)) (filled ids e)) refl refl refl z
+  passes ids B e z = go (eqb (length ids % 32) 0) (ltb widest-gap (gap (e .last) (record { 0 = B }))) (ltb (confirmed-capacity (l .recent)) (held-once-listed k (ids-of ids) B e)) refl refl refl z
     where
-      go : (x y w : Bool) → eqb (length ids % 32) 0 ≡ x → ltb widest-gap (gap (e .last) (record { 0 = B })) ≡ y → ltb (confirmed-capacity (l .recent)) (filled ids e) ≡ w
+      go : (x y w : Bool) → eqb (length ids % 32) 0 ≡ x → ltb widest-gap (gap (e .last) (record { 0 = B })) ≡ y → ltb (confirmed-capacity (l .recent)) (held-once-listed k (ids-of ids) B e) ≡ w
           → cond (not x) (refused bad-list (state-of e) (lay k e l)) (cond y (refused gap-too-wide (state-of e) (lay k e l)) (cond w (refused confirmed-full (state-of e) (lay k e l)) (accepted k (block-connected k (ids-of ids) B e) l))) .answer .number ≡ 0
           → Passed ids B e
       go true false false p q r z = record { whole = p; close = q; free = r }
@@ -151,25 +145,28 @@ module _ (k : Board) (law : Lawful k) (d : Factor (k .decay)) (l : Lent) where
     stepped : Passed ids B g → then-block k hs ids B (state-of e) (lay k e l) ≡ accepted k (block-connected k (ids-of ids) B e) l
     stepped p = then-is ∙ passed ids B g p ∙ ap (λ (x : Estimator). accepted k x l) (gap-steps k e .many L hs B (ids-of ids) a c)
 
-    -- no more records and no more listings than before
-    no-fuller : filled ids g ≤ filled ids e
-    no-fuller =
-        let w = led .within in
-        omega (arith, w .recent, count-le (λ i. is-pending i (g .pending)) (λ i. is-pending i (e .pending)) (λ i h. w .ids i h) (ids-of ids))
+    -- they make no room, and take none
+    same-room : held-once-listed k (ids-of ids) B g ≡ held-once-listed k (ids-of ids) B e
+    same-room = gap-steps k e .room L hs B (ids-of ids) a c
 
-    passes-after : length ids % 32 ≡ 0 → B - last-of L hs ≤ widest-gap → filled ids e ≤ confirmed-capacity (l .recent) → Passed ids B g
+    -- where its list is whole ids and it is near enough, the third test is left
+    close-after : B - last-of L hs ≤ widest-gap → ltb widest-gap (gap (g .last) (record { 0 = B })) ≡ false
     unfolding gap
-    passes-after p q r = record {
-      whole = eq-eqb (length ids % 32) 0 p;
-      close = ap (λ (t : Last). ltb widest-gap (gap t (record { 0 = B }))) (led .last) ∙ le-ltb widest-gap (B - last-of L hs) q;
-      free = le-ltb (confirmed-capacity (l .recent)) (filled ids g) (le-trans no-fuller r);
-    }
+    close-after q = ap (λ (t : Last). ltb widest-gap (gap t (record { 0 = B }))) (led .last) ∙ le-ltb widest-gap (B - last-of L hs) q
+
+    answer-after : length ids % 32 ≡ 0 → B - last-of L hs ≤ widest-gap
+        → then-block k hs ids B (state-of e) (lay k e l) .answer ≡ cond (ltb (confirmed-capacity (l .recent)) (held-once-listed k (ids-of ids) B e)) confirmed-full done
+    answer-after p q = ap (λ (o : Outcome Lent). o .answer) then-is ∙ rw (eq-eqb (length ids % 32) 0 p, close-after q, same-room) (go (ltb (confirmed-capacity (l .recent)) (held-once-listed k (ids-of ids) B e)))
+      where
+        go : (t : Bool) → cond t (refused confirmed-full (state-of g) (lay k g l)) (accepted k (block-connected k (ids-of ids) B g) l) .answer ≡ cond t confirmed-full done
+        go true = refl
+        go false = refl
 
     -- what is promised, of memory t and m that holds e
     record Over (t : State) (m : Lent) : Type 0 where
       answered : all-done k hs t m ≡ true
       as-one-step : then-block k hs ids B t m .answer .number ≡ 0 → then-block k hs ids B t m ≡ accepted k (block-connected k (ids-of ids) B e) l
-      finds-room : length ids % 32 ≡ 0 → B - last-of L hs ≤ widest-gap → filled ids e ≤ confirmed-capacity (l .recent) → then-block k hs ids B t m .answer .number ≡ 0
+      finds-room : length ids % 32 ≡ 0 → B - last-of L hs ≤ widest-gap → then-block k hs ids B t m .answer ≡ cond (ltb (confirmed-capacity (l .recent)) (held-once-listed k (ids-of ids) B e)) confirmed-full done
       as-alone : alone k ids B t m .answer .number ≡ 0 → then-block k hs ids B t m ≡ alone k ids B t m
       too-far : length ids % 32 ≡ 0 → widest-gap < B - L → alone k ids B t m ≡ refused gap-too-wide t m
 
@@ -178,11 +175,11 @@ module _ (k : Board) (law : Lawful k) (d : Factor (k .decay)) (l : Lent) where
     over = record {
       answered = led .done-all;
       as-one-step = λ z. stepped (passes ids B g (sym (ap (λ (o : Outcome Lent). o .answer .number) then-is) ∙ z));
-      finds-room = λ p q r. ap (λ (o : Outcome Lent). o .answer .number) (stepped (passes-after p q r));
+      finds-room = answer-after;
       as-alone = λ z.
           let p = passes ids B e (sym (ap (λ (o : Outcome Lent). o .answer .number) alone-is) ∙ z) in
           let near-enough = ltb-false widest-gap (B - L) (sym (ap (λ (t : Last). ltb widest-gap (gap t (record { 0 = B }))) a) ∙ p .close) in
-          stepped (passes-after (eqb-true (length ids % 32) 0 (p .whole)) (omega (arith, none-below L hs B c)) (ltb-false (confirmed-capacity (l .recent)) (filled ids e) (p .free)))
+          stepped (record { whole = p .whole; close = close-after (omega (arith, none-below L hs B c)); free = ap (ltb (confirmed-capacity (l .recent))) same-room ∙ p .free })
           ∙ sym (alone-is ∙ passed ids B e p);
       too-far = λ p q. alone-is ∙ rw (eq-eqb (length ids % 32) 0 p, a, lt-ltb widest-gap (B - L) q);
     }
@@ -198,7 +195,7 @@ crossed k law d s l t h L a hs ids B c n b =
     record {
       answered = o .answered;
       as-one-step = o .as-one-step;
-      finds-room = λ p q r. o .finds-room p q (omega (arith, r, used-recent k law d s l h t, listings-of k s l e (ids-of ids) refl));
+      finds-room = o .finds-room;
       as-alone = o .as-alone;
       too-far = o .too-far;
     }

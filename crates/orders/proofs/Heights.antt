@@ -6,13 +6,15 @@ use native.Mathlib.Omega.{arith}
 use mathlib.Core.Bool.{Bool, true}
 use mathlib.Core.List.{List, [], _∷_}
 use lib.Dec.{ltb}
+use lib.ListN.{length}
 use borrow.Author.Tests.{ltb-true, lt-ltb, le-ltb}
 use Rattle.kinds.specs.declared.Last.{Last}
 use Rattle.kinds.specs.declared.Last.the-variants.{Nothing, At}
 use Rattle.rules.specs.Ids.{Id}
 use Rattle.rules.specs.Board.{Board}
 use Rattle.rules.specs.Estimator.{Estimator, advance-height, advances, advance-heights, skip-heights, confirm-all, finish-block, block-connected}
-use Rattle.rules.proofs.Records.{and-left, and-right}
+use Rattle.rules.specs.Calls.{held-once-listed}
+use Rattle.rules.proofs.Records.{and-left, and-right, and-both}
 use Rattle.orders.specs.Gaps.{climbing, last-of, empty-steps, GapSteps}
 
 -- a height as a last height
@@ -66,35 +68,50 @@ module _ (k : Board) where
 
   -- ---- a block after it
 
-  -- a block, told the last height
-  block-after : (ids : List Id) (B : ℕ) (e : Estimator) (p : Last) → e .last ≡ p → block-connected k ids B e ≡ finish-block k (advances p B) B (confirm-all k B ids (skip-heights k p B e))
-  unfolding block-connected
-  block-after ids B e p a = ap (λ (l : Last). finish-block k (advances l B) B (confirm-all k B ids (skip-heights k l B e))) a
-
-  -- one that lists nothing between the last height and B
-  over-one : (e : Estimator) (L : ℕ) → e .last ≡ at L → (h B : ℕ) (ids : List Id) → L < h → h < B → block-connected k ids B (block-connected k [] h e) ≡ block-connected k ids B e
-  unfolding advances skip-heights
-  over-one e L a h B ids p q =
+  -- one that lists nothing between the last height and B: the heights that are skipped are the same in the end
+  skips-one : (e : Estimator) (L : ℕ) → e .last ≡ at L → (h B : ℕ) → L < h → h < B → let f = block-connected k [] h e in skip-heights k (f .last) B f ≡ skip-heights k (e .last) B e
+  unfolding skip-heights
+  skips-one e L a h B p q =
       let f : Estimator = block-connected k [] h e in
       let m : L + (h - L) ≡ h = omega arith in
       let n : h - L + (B - suc h) ≡ B - suc L = omega arith in
-      let skips : skip-heights k (at h) B f ≡ skip-heights k (at L) B e =
-      ap (advance-heights k h (B - suc h)) (empty-above e L a h p)
+      ap (λ (l : Last). skip-heights k l B f) (last-above e L a h p)
+      ∙ ap (advance-heights k h (B - suc h)) (empty-above e L a h p)
       ∙ ap (λ (x : ℕ). advance-heights k x (B - suc h) (advance-heights k L (h - L) e)) (sym m)
       ∙ further L (h - L) (B - suc h) e
-      ∙ ap (λ (x : ℕ). advance-heights k L x e) n in
-      block-after ids B f (at h) (last-above e L a h p)
-      ∙ ap₂ (λ (t : Bool) (s : Estimator). finish-block k t B (confirm-all k B ids s)) (lt-ltb h B q ∙ sym (lt-ltb L B (lt-trans p q))) skips
-      ∙ sym (block-after ids B e (at L) a)
+      ∙ ap (λ (x : ℕ). advance-heights k L x e) n
+      ∙ ap (λ (l : Last). skip-heights k l B e) (sym a)
 
   -- any number of them
-  over-many : (hs : List ℕ) (e : Estimator) (L : ℕ) → e .last ≡ at L → (B : ℕ) (ids : List Id) → climbing L hs B ≡ true → block-connected k ids B (empty-steps k hs e) ≡ block-connected k ids B e
-  unfolding climbing empty-steps
-  over-many [] e L a B ids c = refl
-  over-many (h ∷ hs) e L a B ids c =
+  skips-many : (hs : List ℕ) (e : Estimator) (L : ℕ) → e .last ≡ at L → (B : ℕ) → climbing L hs B ≡ true
+      → let f = empty-steps k hs e in (skip-heights k (f .last) B f ≡ skip-heights k (e .last) B e) × (advances (f .last) B ≡ advances (e .last) B)
+  unfolding climbing empty-steps advances
+  skips-many [] e L a B c = (refl, refl)
+  skips-many (h ∷ hs) e L a B c =
       let p = ltb-true L h (and-left (ltb L h) _ c) in
       let d = and-right (ltb L h) _ c in
-      over-many hs (block-connected k [] h e) h (last-above e L a h p) B ids d ∙ over-one e L a h B ids p (under h hs B d)
+      let q = under h hs B d in
+      let b = last-above e L a h p in
+      let r = skips-many hs (block-connected k [] h e) h b B d in (
+        r .0 ∙ skips-one e L a h B p q,
+        r .1 ∙ ap (λ (l : Last). advances l B) b ∙ lt-ltb h B q ∙ sym (lt-ltb L B (lt-trans p q)) ∙ ap (λ (l : Last). advances l B) (sym a),
+      )
+
+  over-many : (hs : List ℕ) (e : Estimator) (L : ℕ) → e .last ≡ at L → (B : ℕ) (ids : List Id) → climbing L hs B ≡ true → block-connected k ids B (empty-steps k hs e) ≡ block-connected k ids B e
+  unfolding block-connected
+  over-many hs e L a B ids c =
+      let s = skips-many hs e L a B c in
+      ap₂ (λ (t : Bool) (x : Estimator). finish-block k t B (confirm-all k B ids x)) (s .1) (s .0)
+
+  -- one of them
+  over-one : (e : Estimator) (L : ℕ) → e .last ≡ at L → (h B : ℕ) (ids : List Id) → L < h → h < B → block-connected k ids B (block-connected k [] h e) ≡ block-connected k ids B e
+  unfolding climbing empty-steps
+  over-one e L a h B ids p q = over-many (h ∷ []) e L a B ids (and-both (lt-ltb L h p) (lt-ltb h B q))
+
+  -- the confirmed records, once the list is in
+  room-many : (hs : List ℕ) (e : Estimator) (L : ℕ) → e .last ≡ at L → (B : ℕ) (ids : List Id) → climbing L hs B ≡ true → held-once-listed k ids B (empty-steps k hs e) ≡ held-once-listed k ids B e
+  unfolding held-once-listed
+  room-many hs e L a B ids c = ap (λ (x : Estimator). length (confirm-all k B ids x .recent)) (skips-many hs e L a B c .0)
 
   -- with no last height
   first-empty : (e : Estimator) → e .last ≡ Nothing → (h : ℕ) → block-connected k [] h e ≡ advance-height k h e
@@ -105,6 +122,7 @@ module _ (k : Board) where
   gap-steps e = record {
     one = λ L h B ids a p q. over-one e L a h B ids p q;
     many = λ L hs B ids a c. over-many hs e L a B ids c;
+    room = λ L hs B ids a c. room-many hs e L a B ids c;
     below = λ L h a p. empty-below e L a h p;
     first = λ h a. first-empty e a h;
   }

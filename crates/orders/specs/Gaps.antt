@@ -1,19 +1,19 @@
--- Heights that no block came for: blocks that list nothing, on the way to a block, change nothing of what that block leaves. So a caller crosses a gap that is too
--- wide for one call, and makes room among the confirmed records before a block that finds none. Assumes nothing.
+-- Heights that no block came for: blocks that list nothing, on the way to a block, change nothing of what that block leaves, nor of the room that it finds. So a
+-- caller crosses a gap that is too wide for one call. Assumes nothing.
 use mathlib.Core.Path.{_≡_}
-use Prim.Native.Nat.{ℕ, _+_, _-_, _%_, _^_, _≤_, _<_}
-use mathlib.Core.Bool.{Bool, true, _&&_}
+use Prim.Native.Nat.{ℕ, _-_, _%_, _^_, _≤_, _<_}
+use mathlib.Core.Bool.{Bool, true, _&&_, cond}
 use mathlib.Core.List.{List, [], _∷_}
 use lib.Dec.{leb, ltb, eqb}
 use lib.ListN.{length}
 use Rattle.kinds.specs.declared.State.{State}
 use Rattle.kinds.specs.declared.Last.the-variants.{Nothing, At}
-use Rattle.kinds.specs.Answers.{done, gap-too-wide}
+use Rattle.kinds.specs.Answers.{done, gap-too-wide, confirmed-full}
 use Rattle.rules.specs.Ids.{Id}
 use Rattle.rules.specs.Board.{Board}
 use Rattle.rules.specs.Estimator.{Estimator, advance-height, block-connected}
 use Rattle.rules.specs.Memory.{Lent, confirmed-capacity, sound, view}
-use Rattle.rules.specs.Calls.{Outcome, outcome, refused, accepted, widest-gap, ids-of, pending-listings, block-call}
+use Rattle.rules.specs.Calls.{Outcome, outcome, refused, accepted, widest-gap, ids-of, held-once-listed, block-call}
 use Rattle.ready.proofs.Stays.{Typed}
 
 -- ---- heights on the way
@@ -46,6 +46,8 @@ pub record GapSteps (k : Board) (e : Estimator) : Type 0 where
   pub one : (L h B : ℕ) (ids : List Id) → e .last ≡ At (record { 0 = L }) → L < h → h < B → block-connected k ids B (block-connected k [] h e) ≡ block-connected k ids B e
   -- nor do any number of them that climb
   pub many : (L : ℕ) (hs : List ℕ) (B : ℕ) (ids : List Id) → e .last ≡ At (record { 0 = L }) → climbing L hs B ≡ true → block-connected k ids B (empty-steps k hs e) ≡ block-connected k ids B e
+  -- The block at B finds the room that it would have found without them.
+  pub room : (L : ℕ) (hs : List ℕ) (B : ℕ) (ids : List Id) → e .last ≡ At (record { 0 = L }) → climbing L hs B ≡ true → held-once-listed k ids B (empty-steps k hs e) ≡ held-once-listed k ids B e
   -- one that is not above the last height does nothing at all
   pub below : (L h : ℕ) → e .last ≡ At (record { 0 = L }) → h ≤ L → block-connected k [] h e ≡ e
   -- With no last height there is no gap: it is the first block, and advances its one height.
@@ -77,8 +79,9 @@ pub record Crossed (k : Board) (s : State) (l : Lent) (L : ℕ) (hs ids : List �
   pub answered : all-done k hs s l ≡ true
   -- The last, where it is Done, leaves what document 01's one step at B leaves: the same state and the same bytes, those past the capacities among them.
   pub as-one-step : then-block k hs ids B s l .answer .number ≡ 0 → then-block k hs ids B s l ≡ accepted k (block-connected k (ids-of ids) B (view k s l)) l
-  -- It is Done where its list is whole ids, where it is near enough, and where the records that were there before all of them, and its listings, find room.
-  pub finds-room : length ids % 32 ≡ 0 → B - last-of L hs ≤ widest-gap → s .recent + pending-listings k s l (ids-of ids) ≤ confirmed-capacity (l .recent) → then-block k hs ids B s l .answer .number ≡ 0
+  -- Where its list is whole ids and it is near enough, it is Done, or 7 if the confirmed records, once its list is in, would be too many: told from memory before all of them.
+  pub finds-room : length ids % 32 ≡ 0 → B - last-of L hs ≤ widest-gap
+      → then-block k hs ids B s l .answer ≡ cond (ltb (confirmed-capacity (l .recent)) (held-once-listed k (ids-of ids) B (view k s l))) confirmed-full done
   -- So where the block alone would have been Done, it is Done after them too, and all is as if it had come alone.
   pub as-alone : alone k ids B s l .answer .number ≡ 0 → then-block k hs ids B s l ≡ alone k ids B s l
   -- Where it would have been too far, it alone is GapTooWide, and changes nothing; the first three then say what a caller has.

@@ -137,8 +137,9 @@ worked-gaps =
     ∷ not (as-alone-after 103 (At (record { 0 = 100 })))
     -- With no last height it is the first block, and decays.
     ∷ not (as-alone-after 102 Nothing)
-    -- A block at 102 alone is ConfirmedFull. One at 101 that lists nothing lets the old record go, and then there is room.
-    ∷ eqb (alone base (id 7) 102 full no-place .answer .number) 7
+    -- A block at 102 alone finds room, since height 101 lets the old record go, and it finds the same after one at 101 that lists nothing. At 101 it is ConfirmedFull.
+    ∷ eqb (alone base (id 7) 101 full no-place .answer .number) 7
+    ∷ eqb (alone base (id 7) 102 full no-place .answer .number) 0
     ∷ all-done base (101 ∷ []) full no-place
     ∷ (let o = then-block base (101 ∷ []) (id 7) 102 full no-place in
     eqb (o .answer .number) 0 && (eqb (o .state .pending) 0 && (eqb (o .state .recent) 1 && (same (o .lent .pending) free && same (o .lent .recent) (id 7 ++ (102 ∷ 0 ∷ 0 ∷ 0 ∷ []))))))

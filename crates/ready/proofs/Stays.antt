@@ -4,6 +4,7 @@ use mathlib.Core.Path.{_≡_, refl, sym, ap, ap₂, _∙_}
 use mathlib.Core.Bool.{Bool, true, false, not, _||_, cond, true≢false}
 use mathlib.Core.List.{List}
 use Prim.Native.Nat.{ℕ, suc, _+_, _%_, _^_, _≤_, _<_, zero-le}
+use native.Mathlib.Nat.{le-trans}
 use native.Mathlib.Omega.{arith}
 use lib.Dec.{T, leb, ltb, eqb}
 use lib.ListN.{length, take, getD}
@@ -23,13 +24,13 @@ use Rattle.rules.specs.Board.{Board, Pending, confirmed-size, pending-most, con
 use Rattle.rules.specs.Records.{sound-table}
 use Rattle.rules.specs.Estimator.{Estimator, fresh, is-pending, admit, without, with-pending, tx-entered, tx-left, block-connected}
 use Rattle.rules.specs.Memory.{Lent, lent, pending-capacity, confirmed-capacity, pending-records, lay-pending, enough, sound-counts, sound-pending, sound-confirmed, sound, view, state-of, lay}
-use Rattle.rules.specs.Calls.{Outcome, refused, accepted, accepted-pending, enter-call, leave-call, gap, widest-gap, ids-of, pending-listings, block-call}
+use Rattle.rules.specs.Calls.{Outcome, refused, accepted, accepted-pending, enter-call, leave-call, gap, widest-gap, ids-of, held-once-listed, block-call}
 use Rattle.rules.proofs.All.{All}
 use Rattle.rules.proofs.Records.{and-left, and-right, used-within}
 use Rattle.rules.proofs.Memory.{Room, state-of-view, lay-of-view}
 use Rattle.rules.proofs.Well.{newcomer, Well, well-fresh, well-entered, well-left, well-block}
 use Rattle.rules.proofs.Sound.{SoundCounts, view-well, lay-sound}
-use Rattle.rules.proofs.Room.{length-keep, length-insert, within-block}
+use Rattle.rules.proofs.Room.{length-keep, length-insert, fewer-recent, fewer-pending}
 use Rattle.rules.proofs.Listed.{ids-sized}
 use Rattle.floats.specs.Factor.{Factor}
 use Rattle.floats.proofs.Count.{Counted}
@@ -109,19 +110,21 @@ module _ (k : Board) (law : Lawful k) (d : Factor (k .decay)) where
     -- ---- block
 
     pub block-stays : (ids : List ℕ) (B : Height) → B .0 < 256 ^ 4 → sound k (block-call k s l ids B .state) (block-call k s l ids B .lent) ≡ true
-    unfolding block-call pending-listings view
+    unfolding block-call
     block-stays ids B b =
         unless (not (sound k s l)) (refused damaged s l) _ h
         (λ _. unless (not (eqb (length ids % 32) 0)) (refused bad-list s l) _ h
         (λ _. unless (ltb widest-gap (gap (s .last) B)) (refused gap-too-wide s l) _ h
-        (λ _. unless (ltb (confirmed-capacity (l .recent)) (s .recent + pending-listings k s l (ids-of ids))) (refused confirmed-full s l) _ h
+        (λ _. unless (ltb (confirmed-capacity (l .recent)) (held-once-listed k (ids-of ids) (B .0) (view k s l))) (refused confirmed-full s l) _ h
         (λ q.
         let e = view k s l in
-        let w = within-block k (ids-of ids) (B .0) e in
         lay-sound k law (block-connected k (ids-of ids) (B .0) e) l
         (well-block k (B .0) e (ids-sized ids) b well)
         (counts-sound (steady-block k d (ids-of ids) (B .0) e steady))
-        (record { pending = omega (arith, w .pending, room .pending); recent = omega (arith, w .recent, used-recent, ltb-false (confirmed-capacity (l .recent)) (s .recent + pending-listings k s l (ids-of ids)) q) })))))
+        (record {
+          pending = le-trans (fewer-pending k (ids-of ids) (B .0) e) (room .pending);
+          recent = le-trans (fewer-recent k (ids-of ids) (B .0) e) (ltb-false (confirmed-capacity (l .recent)) (held-once-listed k (ids-of ids) (B .0) e) q);
+        })))))
 
     -- ---- enter, leave: the pending table alone
 
