@@ -1,6 +1,6 @@
 -- The number that the lookup answers tells a bucket from none: every bucket is below 142. Assumes nothing.
 use mathlib.Core.Path.{_≡_, refl, ap}
-use mathlib.Core.Option.{Option, none, some}
+use mathlib.Core.Option.{Option, some}
 use Prim.Native.Nat.{ℕ}
 use native.Mathlib.Omega.{arith}
 use Rattle.rules.specs.Ladder.{bucket-for}

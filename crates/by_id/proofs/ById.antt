@@ -111,13 +111,27 @@ module _ (i : Id) (used n : ℕ) (xs : List ℕ) (s : sound-table confirmed-size
   unfolding confirmed-records
   not-held f = sym (confirmed-not-held i n (records confirmed-size used xs) (sound-told _ _ used xs s .rise) h f)
 
+  -- where there is no record of i, its height is one record more
+  pub one-more : length i ≡ 32 → h < 256 ^ 4 → find-in i (map id-of (records confirmed-size used xs)) ≡ Gap n → length (become i h (confirmed-records used xs)) ≡ used + 1
+  unfolding confirmed-records insert-at
+  one-more l small f =
+      let rs : List (List ℕ) = records confirmed-size used xs in
+      let new : Confirmed = record { id = i; height = h } in
+      let many : length rs ≡ used = length-records confirmed-size used xs in
+      let m : n ≤ used = gap-used confirmed-size used n xs i f in
+      let more : length (insert-at n (confirmed-bytes new) rs) ≡ used + 1 = simp (length-append, length-take, length-drop) (omega arith) in
+      sym (ap length (confirmed-new i n rs (sound-told _ _ used xs s .rise) h (confirmed-bytes new) (confirmed-kept .back new (record { id = l; height = small })) f))
+      ∙ length-map (insert-at n (confirmed-bytes new) rs) confirmed-of
+      ∙ more
+
   module _ (ys : List ℕ) (b : T (areBytes ys)) (small : h < 256 ^ 4) where
     -- a new record
-    pub noted-new : length i ≡ 32 → used < confirmed-capacity xs → find-in i (map id-of (records confirmed-size used xs)) ≡ Gap n
+    pub noted-new : length i ≡ 32 → length (become i h (confirmed-records used xs)) ≤ confirmed-capacity xs → find-in i (map id-of (records confirmed-size used xs)) ≡ Gap n
         → ys ≡ laid confirmed-size (used + 1) (insert-at n (confirmed-bytes (record { id = i; height = h })) (records confirmed-size used xs)) xs
         → (used + 1 ≡ length (become i h (confirmed-records used xs))) × (ys ≡ lay-confirmed (become i h (confirmed-records used xs)) xs)
     unfolding confirmed-records lay-confirmed insert-at
     noted-new l room f q =
+        let one = one-more l small f in
         let g = sound-told confirmed-size confirmed-most used xs s in
         let rs : List (List ℕ) = records confirmed-size used xs in
         let new : Confirmed = record { id = i; height = h } in

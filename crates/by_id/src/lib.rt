@@ -11,7 +11,7 @@ use table::put_field;
 use table::remove;
 ghost use mathlib.Core.Path.{_≡_};
 ghost use mathlib.Core.Bool.{true};
-ghost use Prim.Native.Nat.{_<_};
+ghost use Prim.Native.Nat.{_≤_};
 ghost use lib.ListN.{length};
 ghost use Rattle.rules.specs.Records.{sound-table};
 ghost use Rattle.rules.specs.Board.{board-of, pending-most, confirmed-size, confirmed-most};
@@ -66,7 +66,7 @@ pub fn holds(recent: &[u8], used: usize, id: &[u8], h: Height) -> bool
 // The confirmed height of the id becomes h. The answer is how many confirmed records there are then.
 pub fn note_height(recent: &mut [u8], used: usize, id: &[u8], h: Height) -> usize
     requires { ⌜ sound-table confirmed-size confirmed-most used (now recent) ≡ true ⌝ }
-    requires { ⌜ used < confirmed-capacity (now recent) ⌝ }
+    requires { ⌜ length (become (now id) (h .0) (confirmed-records used (now recent))) ≤ confirmed-capacity (now recent) ⌝ }
     requires { ⌜ length (now id) ≡ 32 ⌝ }
     ensures { λ r. ⌜ r ≡ length (become (now (id .entry)) (h .0) (confirmed-records used (now (recent .entry)))) ⌝ }
     ensures { λ _. ⌜ now (recent .exit) ≡ lay-confirmed (become (now (id .entry)) (h .0) (confirmed-records used (now (recent .entry)))) (now (recent .entry)) ⌝ }

@@ -10,7 +10,6 @@ use lib.ListN.{length, take, drop, take-append-drop}
 use lib.Ieee.{Float}
 use Rattle.kinds.specs.declared.State.{State}
 use Rattle.kinds.specs.Answers.{done}
-use Rattle.rules.specs.Lists.{bit}
 use Rattle.rules.specs.Ids.{Id, same}
 use Rattle.rules.specs.Counts.{places-of-counts, gain}
 use Rattle.rules.specs.Board.{Board, Lawful, Pending}
@@ -32,10 +31,6 @@ of-found {P} i (more {a} {l} h hs) q e = go (same (a .id) i) e (of-found i hs q)
     go : (t : Bool) → cond t (some a) (find i l) ≡ some q → (find i l ≡ some q → P q) → P q
     go true e f = let z : a ≡ q = cc in subst P z h
     go false e f = f e
-
--- an id that is pending has room for its confirmed record
-pub room-for-it : (n m : ℕ) (t : Bool) → true ≡ t → n + bit t ≤ m → n < m
-room-for-it n m t e h = let k : n + 1 ≤ m = rw (sym e) at h in omega arith
 
 module _ (k : Board) (law : Lawful k) (s : State) (l : Lent) (r : Ready k s l) (B : ℕ) (i : Id) where
   -- an id that is not pending changes nothing
@@ -62,11 +57,23 @@ module _ (k : Board) (law : Lawful k) (s : State) (l : Lent) (r : Ready k s l) (
   unfolding confirm view
   not-uncounted e q = rw e q
 
+  -- and has the room that it needs
+  pub not-uncounted-room : holds i B (confirmed-records (s .recent) (l .recent)) ≡ false → (n : ℕ) → length (confirm k B i (view k s l) .recent) ≤ n
+      → length (record-confirmation k B i (find i (pending-records k (s .pending) (l .pending))) (view k s l) .recent) ≤ n
+  unfolding confirm view
+  not-uncounted-room e n h = rw e at h
+
   module _ (q : Pending) (e : find i (pending-records k (s .pending) (l .pending)) ≡ some q) where
     -- the bucket of a pending record is one of the 142
     pub bucket-fits : q .bucket ≤ 141
     unfolding view
     bucket-fits = of-found i (r .well .pending) q e .bucket
+
+    -- its confirmed height has the room that it needs
+    pub counted-room : (n : ℕ) → length (record-confirmation k B i (find i (pending-records k (s .pending) (l .pending))) (view k s l) .recent) ≤ n
+        → length (become i B (confirmed-records (s .recent) (l .recent))) ≤ n
+    unfolding record-confirmation view
+    counted-room n h = rw e at h
 
     -- an id that is pending goes, its confirmed height becomes B, and it is counted
     pub counted : (n m b x u : ℕ) (c d : List Float) (p t : List ℕ) → b ≡ q .bucket → x ≡ q .entry → u ≡ q .through

@@ -9,15 +9,14 @@ use kinds::Horizon;
 use kinds::State;
 use table::PendingEntry;
 ghost use mathlib.Core.Path.{_≡_};
-ghost use Prim.Native.Nat.{_+_, _*_, _≤_};
+ghost use Prim.Native.Nat.{_*_, _≤_};
 ghost use lib.Dec.{leb, ltb};
 ghost use lib.ListN.{length};
 ghost use Rattle.kinds.specs.Answers.{done};
-ghost use Rattle.rules.specs.Lists.{bit};
 ghost use Rattle.rules.specs.Ladder.{last-bucket};
 ghost use Rattle.rules.specs.Counts.{places-of-counts, gain};
 ghost use Rattle.rules.specs.Board.{board-of};
-ghost use Rattle.rules.specs.Estimator.{is-pending, find, wait, record-confirmation, confirm};
+ghost use Rattle.rules.specs.Estimator.{find, wait, record-confirmation, confirm};
 ghost use Rattle.rules.specs.Memory.{view, pending-records, confirmed-capacity};
 ghost use Rattle.rules.specs.Slices.{given, before, after};
 ghost use Rattle.rules.specs.Calls.{outcome, accepted};
@@ -47,7 +46,10 @@ fn record_confirmation(
     on: Horizon,
 ) -> State
     requires { ⌜ Ready (board-of on) state (given confirmed resolved pending recent) ⌝ }
-    requires { ⌜ state .recent + bit (is-pending (now id) (pending-records (board-of on) (state .pending) (now pending))) ≤ confirmed-capacity (now recent) ⌝ }
+    requires { ⌜
+        length (record-confirmation (board-of on) (h .0) (now id) (find (now id) (pending-records (board-of on) (state .pending) (now pending)))
+        (view (board-of on) state (given confirmed resolved pending recent)) .recent)
+        ≤ confirmed-capacity (now recent) ⌝ }
     requires { ⌜ length (now id) ≡ 32 ⌝ }
     ensures { λ r. ⌜
         outcome done r (after confirmed resolved pending recent)
@@ -93,7 +95,7 @@ pub(crate) fn confirm(
     on: Horizon,
 ) -> State
     requires { ⌜ Ready (board-of on) state (given confirmed resolved pending recent) ⌝ }
-    requires { ⌜ state .recent + bit (is-pending (now id) (pending-records (board-of on) (state .pending) (now pending))) ≤ confirmed-capacity (now recent) ⌝ }
+    requires { ⌜ length (confirm (board-of on) (h .0) (now id) (view (board-of on) state (given confirmed resolved pending recent)) .recent) ≤ confirmed-capacity (now recent) ⌝ }
     requires { ⌜ length (now id) ≡ 32 ⌝ }
     ensures { λ r. ⌜
         outcome done r (after confirmed resolved pending recent)

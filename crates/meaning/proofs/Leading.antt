@@ -3,7 +3,7 @@
 use mathlib.Core.Path.{_≡_, refl, sym, ap, _∙_, subst}
 use mathlib.Core.Bool.{Bool, true, false, not, _&&_, cond}
 use mathlib.Core.List.{List, [], _∷_}
-use Prim.Native.Nat.{ℕ, suc, _+_, _≤_, _<_, zero-le}
+use Prim.Native.Nat.{ℕ, suc, _≤_, _<_, zero-le}
 use native.Mathlib.Nat.{le-trans}
 use native.Mathlib.Omega.{arith}
 use lib.Dec.{eqb}
@@ -12,7 +12,6 @@ use Rattle.kinds.specs.declared.FeeRate.{FeeRate}
 use Rattle.kinds.specs.declared.Height.{Height}
 use Rattle.kinds.specs.declared.State.{State}
 use Rattle.kinds.specs.Answers.{Answer, done, damaged}
-use Rattle.rules.specs.Lists.{count}
 use Rattle.rules.specs.Ids.{Id, same, below, dropped}
 use Rattle.rules.specs.Ladder.{floor}
 use Rattle.rules.specs.Board.{Board, Pending, pending-most, confirmed-most, Lawful}

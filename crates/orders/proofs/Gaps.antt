@@ -8,7 +8,7 @@ use native.Mathlib.Nat.{le-trans, lt-trans}
 use native.Mathlib.Omega.{arith}
 use lib.Dec.{leb, ltb, eqb}
 use lib.ListN.{length}
-use borrow.Author.Tests.{leb-true, ltb-true, ltb-false, le-ltb, lt-ltb, eqb-true, eq-eqb}
+use borrow.Author.Tests.{leb-true, ltb-true, ltb-false, le-ltb, lt-ltb, eq-eqb}
 use Rattle.kinds.specs.declared.Height.{Height}
 use Rattle.kinds.specs.declared.State.{State}
 use Rattle.kinds.specs.declared.Last.{Last}

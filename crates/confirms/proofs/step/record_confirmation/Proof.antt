@@ -17,8 +17,8 @@ use Rattle.ready.proofs.Facts.{confirmed-places, resolved-places, pending-sound
 use Rattle.ids.specs.Search.{find-in}
 use Rattle.ids.specs.declared.Found.the-variants.{At}
 use Rattle.table.proofs.Edited.{are-bytes}
-use Rattle.by_id.proofs.ById.{searchable, told, in-table, there, found, lost, removed}
-use Rattle.confirms.proofs.Stepped.{bucket-fits, room-for-it, unlisted, counted}
+use Rattle.by_id.proofs.ById.{searchable, told, in-table, found, lost, removed}
+use Rattle.confirms.proofs.Stepped.{bucket-fits, counted-room, unlisted, counted}
 use borrow.Author.Needs.{needs}
 use Rattle.confirms.proofs.step.record_confirmation.Statement.{statement}
 use Rattle.confirms.proofs.step.record_confirmation.Tie as tie
@@ -83,7 +83,7 @@ note-height-requires : tie.Need-note-height-requires
 note-height-requires c κs =
     let n = c .before .before .before .before .before .before .before .before .before .before .before .before .before .before .before in
     let s = start n in
-    (recent-sound (board-of (on n)) (board-lawful (on n)) _ _ (s .pre .0), (room-for-it _ _ _ (there (board-of (on n)) (board-lawful (on n)) _ _ _ _ (sound n) (at n)) (s .pre .1 .0), s .pre .1 .1))
+    (recent-sound (board-of (on n)) (board-lawful (on n)) _ _ (s .pre .0), (counted-room (board-of (on n)) (board-lawful (on n)) _ _ (s .pre .0) _ _ _ (record-found n) _ (s .pre .1 .0), s .pre .1 .1))
 
 returns : tie.Need-returns
 returns c =
