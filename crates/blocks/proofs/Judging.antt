@@ -4,7 +4,7 @@ use mathlib.Core.Path.{_≡_, refl, sym, ap, _∙_}
 use mathlib.Core.Bool.{Bool, true, false, not, cond}
 use mathlib.Core.Logic.{⊎-elim}
 use mathlib.Core.List.{List, [], _∷_}
-use Prim.Native.Nat.{ℕ, _+_, _%_, _≤_, _<_}
+use Prim.Native.Nat.{ℕ, _%_, _≤_, _<_}
 use native.Mathlib.Omega.{arith}
 use borrow.Author.Tests.{ltb-false, lt-ltb, le-ltb, eq-eqb, ne-eqb, not-false}
 use lib.Dec.{ltb, eqb}
@@ -20,7 +20,7 @@ use Rattle.rules.specs.Board.{Board, pending-most, confirmed-size, confirmed-mo
 use Rattle.rules.specs.Estimator.{block-connected}
 use Rattle.rules.specs.Records.{sound-table}
 use Rattle.rules.specs.Memory.{Lent, confirmed-capacity, sound-counts, sound-pending, sound-confirmed, sound, view}
-use Rattle.rules.specs.Calls.{Outcome, outcome, refused, accepted, gap, widest-gap, ids-of, pending-listings, block-call}
+use Rattle.rules.specs.Calls.{Outcome, outcome, refused, accepted, gap, widest-gap, ids-of, held-once-listed, block-call}
 use Rattle.rules.proofs.Records.{and-left, and-right, used-within}
 use Rattle.rules.proofs.Memory.{pending-table}
 use Rattle.rules.proofs.Refusals.{DoneOrAsGiven, is-done, as-given, block-refused}
@@ -75,9 +75,9 @@ module _ (k : Board) (a : Block) where
   abbrev l : Lent
   l = a .lent
 
-  -- how many confirmed records there may be in the end
+  -- how many confirmed records there will be once the list is in
   abbrev wanted : ℕ
-  wanted = s .recent + pending-listings k s l (ids-of (a .ids))
+  wanted = held-once-listed k (ids-of (a .ids)) (a .height .0) (view k s l)
 
   -- what the definition says
   abbrev pub says : Outcome Lent

@@ -4,13 +4,13 @@ use kinds::Horizon;
 use kinds::Last;
 use kinds::State;
 ghost use mathlib.Core.Path.{_≡_};
-ghost use Prim.Native.Nat.{_+_, _≤_};
+ghost use Prim.Native.Nat.{_≤_};
 ghost use Rattle.kinds.specs.Answers.{done};
 ghost use Rattle.rules.specs.Board.{board-of};
 ghost use Rattle.rules.specs.Estimator.{advances, block-connected};
 ghost use Rattle.rules.specs.Memory.{view, confirmed-capacity};
 ghost use Rattle.rules.specs.Slices.{given, before, after};
-ghost use Rattle.rules.specs.Calls.{outcome, accepted, ids-of, pending-listings};
+ghost use Rattle.rules.specs.Calls.{outcome, accepted, ids-of, held-once-listed};
 ghost use Rattle.ready.specs.Ready.{Ready};
 
 // Whether a block advances: if there is no last height, or its height is above it.
@@ -37,7 +37,7 @@ pub(crate) fn connect(
     on: Horizon,
 ) -> State
     requires { ⌜ Ready (board-of on) state (given confirmed resolved pending recent) ⌝ }
-    requires { ⌜ state .recent + pending-listings (board-of on) state (given confirmed resolved pending recent) (ids-of (now ids)) ≤ confirmed-capacity (now recent) ⌝ }
+    requires { ⌜ held-once-listed (board-of on) (ids-of (now ids)) (height .0) (view (board-of on) state (given confirmed resolved pending recent)) ≤ confirmed-capacity (now recent) ⌝ }
     ensures { λ r. ⌜
         outcome done r (after confirmed resolved pending recent)
         ≡ accepted (board-of on) (block-connected (board-of on) (ids-of (now (ids .entry))) (height .0) (view (board-of on) state (before confirmed resolved pending recent)))

@@ -41,7 +41,7 @@ asked =
     ∷ leave (id 4)
     ∷ connects [] 4198
     ∷ connects [] 102
-    ∷ enters 5 1000 102
+    ∷ enters 5 1000 103
     ∷ connects (id 5) 103
     ∷ []
 
@@ -60,7 +60,7 @@ taken =
     ▸ arrival (id 4) 1000 101
     ▸ removal (id 4)
     ▸ block [] 102
-    ▸ arrival (id 5) 1000 102
+    ▸ arrival (id 5) 1000 103
 
 -- two ones, and two heights
 abbrev two : Float
@@ -71,7 +71,7 @@ unfoldable pub left-so : Lent → Bool
 left-so m =
     same-counts (m .confirmed) (only 33 (replicate 25 two) ++ (nan ∷ []))
     && (same-counts (m .resolved) (only 33 (replicate 25 two))
-    && (same (m .pending) (id 5 ++ bytes 4 0 ++ bytes 4 102 ++ bytes 4 0 ++ replicate 44 0 ++ replicate 12 7)
+    && (same (m .pending) (id 5 ++ bytes 4 0 ++ bytes 4 103 ++ bytes 4 0 ++ replicate 44 0 ++ replicate 12 7)
     && same (m .recent) (id 1 ++ bytes 4 101 ++ id 2 ++ bytes 4 101 ++ replicate 8 9)))
 
 pub record Ran (x : Held) : Type 0 where
@@ -87,3 +87,13 @@ answered = refl
 pub ran : Ran (calls base dirty asked)
 unfolding compute-runs left-so
 ran = record { log-is = refl; state-is = refl; memory-is = tt }
+
+-- The last call was refused, since both places are taken by records of height 101. They go at 127, so a block at 128 finds room; id 5, entered at 103, would go at 128.
+pub unstuck : after base (connects (id 5) 128) (calls base dirty asked) .state ≡ record { last = At (record { 0 = 128 }); pending = 0; recent = 1 }
+unfolding compute-runs
+unstuck = refl
+
+-- at 127 it finds none
+pub still-stuck : answers (connects (id 5) 127 ∷ connects (id 5) 128 ∷ []) (calls base dirty asked) ≡ 7 ∷ 0 ∷ []
+unfolding compute-runs answers
+still-stuck = refl

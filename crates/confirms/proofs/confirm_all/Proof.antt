@@ -27,7 +27,7 @@ confirm-requires c κs =
     let n = c .before .before .before .before .before in
     let g = n .before .loop in
     let a = n .before .before .before .before .before .before .before .args in
-    (g .inv .ready, (room-for-one (board-of (a .on)) (board-lawful (a .on)) _ _ _ _ (g .at) _ _ (g .inv) (n .loop-test .taken) (omega (arith, n .before .before .before .before .before .before .before .good)), listed-length (now (a .ids)) (g .at) (n .loop-test .taken)))
+    (g .inv .ready, (room-for-one (board-of (a .on)) (board-lawful (a .on)) _ _ _ _ (g .at) _ _ (g .inv) (omega (arith, n .loop-test .taken)) (omega (arith, n .before .before .before .before .before .before .before .good)), listed-length (now (a .ids)) (g .at) (omega (arith, n .loop-test .taken))))
 
 loop-again : tie.Need-loop-again Inv-loop μ-loop
 loop-again c =
@@ -35,7 +35,7 @@ loop-again c =
     let n = c .before .before .before .before .before .before .before .before .before .before .before .before .before .before in
     let g = n .before .loop in
     let on = n .before .before .before .before .before .before .before .args .on in
-    going-more (board-of on) (board-lawful on) _ _ _ _ (g .at) _ _ (g .inv) (n .loop-test .taken) (omega (arith, n .before .before .before .before .before .before .before .good)) _ _
+    going-more (board-of on) (board-lawful on) _ _ _ _ (g .at) _ _ (g .inv) (omega (arith, n .loop-test .taken)) (omega (arith, n .before .before .before .before .before .before .before .good)) _ _
     (record {
       confirmed = k .kept .1 .0 ∙ g .inv .long .confirmed;
       resolved = k .kept .1 .1 .0 ∙ g .inv .long .resolved;
@@ -57,7 +57,7 @@ same-length-4 : tie.Need-same-length-4 Inv-loop μ-loop
 same-length-4 c = c .before .loop .inv .long .recent
 
 returns : tie.Need-returns Inv-loop μ-loop
-returns c = let on = c .before .before .before .before .before .before .before .args .on in going-all (board-of on) (board-lawful on) _ _ _ _ (c .before .loop .at) _ _ (c .before .loop .inv) (c .loop-test .left)
+returns c = let on = c .before .before .before .before .before .before .before .args .on in going-all (board-of on) (board-lawful on) _ _ _ _ (c .before .loop .at) _ _ (c .before .loop .inv) (omega (arith, c .loop-test .left))
 
 pub confirm-all-spec : {M : Type 1} → statement M
 confirm-all-spec =
