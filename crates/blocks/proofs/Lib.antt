@@ -1,6 +1,6 @@
 -- Laws of a block.
 
--- the tests of a block, and what it is that has passed them
-pub mod Judging
+-- what it is that was refused, or was not
+pub mod Judged
 -- its steps, and that memory is ready for each
 pub mod Connecting

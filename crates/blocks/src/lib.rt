@@ -1,7 +1,6 @@
 // The body of a block, over the horizon. It is what its definition in rules/specs/Calls says, for every input; it asks nothing of its caller. First the whole
-// block is judged (`refuse`), then, if it is not refused, its steps are taken (`accept`).
+// block is judged (`verdict`), then, if it is not refused, its steps are taken (`accept`).
 mod accept;
-mod refuse;
 
 use accept::connect;
 use kinds::BlockAnswer;
@@ -9,7 +8,7 @@ use kinds::Connected;
 use kinds::Height;
 use kinds::Horizon;
 use kinds::State;
-use refuse::judge_block;
+use verdict::judge_block;
 ghost use mathlib.Core.Path.{_≡_};
 ghost use Rattle.kinds.specs.Answers.{block-answer};
 ghost use Rattle.rules.specs.Board.{board-of};

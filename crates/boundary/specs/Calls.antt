@@ -20,7 +20,7 @@ use Rattle.boundary.specs.Words.{holds-state, state-in, put-state, put-i
 
 -- The version of the C ABI. It moves by one where the state's words, a record's bytes, a call's parameters or the answers to them change.
 abbrev pub abi-version : ℕ
-abi-version = 2
+abi-version = 3
 
 -- ---- the bucket of a rate, on either board
 

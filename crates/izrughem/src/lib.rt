@@ -15,7 +15,7 @@ ghost use Rattle.boundary.specs.Calls.{abi-version, izr-bucket-index-for-rate, 
 pub extern "C" fn izr_version() -> u32
     ensures { λ r. ⌜ r ≡ abi-version ⌝ }
 {
-    2
+    3
 }
 
 // The bucket that a rate belongs to, on either board, or 142 below the floor, where there is none.

@@ -1,4 +1,4 @@
--- `blocks::block_connected` meets its contract: a block that is judged Done is accepted, and any other refused, by the laws of `Judging`.
+-- `blocks::block_connected` meets its contract: a block that is judged Done is accepted, and any other refused, by the laws of `Judged`.
 -- Assumes nothing.
 use mathlib.Core.Path.{_≡_, sym, ap, _∙_}
 use denote.Ref.{now}
@@ -9,7 +9,8 @@ use Rattle.rules.specs.Memory.{Lent, lent}
 use Rattle.rules.specs.Calls.{outcome}
 use Rattle.ready.proofs.Ready.{ready-sound}
 use Rattle.rules.proofs.Bytes.{are-bytes}
-use Rattle.blocks.proofs.Judging.{Block, says, block-refusal, block-sound, block-room, block-accepted}
+use Rattle.verdict.proofs.Judging.{Block, says}
+use Rattle.blocks.proofs.Judged.{block-refusal, block-sound, block-room, block-accepted}
 use borrow.Author.Needs.{needs}
 use Rattle.blocks.proofs.block_connected.Statement.{statement}
 use Rattle.blocks.proofs.block_connected.Tie as tie

@@ -1,9 +1,9 @@
--- `blocks::refuse::gap` meets its contract. Assumes nothing.
+-- `verdict::gap` meets its contract. Assumes nothing.
 use native.Mathlib.Omega.{arith}
 use Rattle.rules.specs.Calls.{gap}
 use borrow.Author.Needs.{needs}
-use Rattle.blocks.proofs.refuse.gap.Statement.{statement}
-use Rattle.blocks.proofs.refuse.gap.Tie as tie
+use Rattle.verdict.proofs.gap.Statement.{statement}
+use Rattle.verdict.proofs.gap.Tie as tie
 
 returns : tie.Need-returns
 unfolding gap

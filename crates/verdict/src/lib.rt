@@ -1,4 +1,4 @@
-// Whether a block is refused, and why.
+// Whether a block is refused, and why. All is judged over what is only lent to be read, so a refusal cannot have written.
 use kinds::BlockAnswer;
 use kinds::Blocks;
 use kinds::CONFIRMED_SIZE;
@@ -30,8 +30,8 @@ fn gap(last: Last, h: Height) -> Blocks
     }
 }
 
-// The answer of a block: the first refusal, or Done.
-pub(crate) fn judge_block(
+// The answer of a block: the first refusal, or Done. A list that is no longer than the free places finds room, and is not looked at.
+pub fn judge_block(
     state: State,
     confirmed: &[f64],
     resolved: &[f64],
@@ -54,10 +54,12 @@ pub(crate) fn judge_block(
     if MAX_GAP < skipped.0 {
         return BlockAnswer::GapTooWide;
     }
-    let used = state.pending;
     let kept = state.recent;
     let free = table::capacity(recent, CONFIRMED_SIZE, MAX_CONFIRMED_RECORDS) - kept;
-    if free < confirms::pending_listings(pending, used, ids, on) {
+    if ids.len() / 32 <= free {
+        return BlockAnswer::Done;
+    }
+    if !room::finds_room(state, pending, recent, ids, height, on) {
         return BlockAnswer::ConfirmedFull;
     }
     BlockAnswer::Done

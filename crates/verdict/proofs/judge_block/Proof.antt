@@ -1,4 +1,4 @@
--- `blocks::refuse::judge_block` meets its contract: each of its answers is the definition's, by the laws of `Judging`. Assumes nothing.
+-- `verdict::judge_block` meets its contract: each of its answers is the definition's, by the laws of `Judging`. Assumes nothing.
 use mathlib.Core.Path.{_≡_, sym, _∙_}
 use mathlib.Core.Bool.{true}
 use Prim.Native.Nat.{_≤_}
@@ -8,10 +8,10 @@ use denote.Ref.{now}
 use Rattle.rules.specs.Board.{Board, board-of}
 use Rattle.rules.specs.Memory.{lent, sound}
 use Rattle.rules.specs.Calls.{gap, widest-gap, pending-listings}
-use Rattle.blocks.proofs.Judging.{Block, pending-sound, recent-within, answer-damaged, answer-list, answer-gap, answer-full, answer-done}
+use Rattle.verdict.proofs.Judging.{Block, pending-sound, recent-within, answer-damaged, answer-list, answer-gap, answer-full, answer-done}
 use borrow.Author.Needs.{needs}
-use Rattle.blocks.proofs.refuse.judge_block.Statement.{statement}
-use Rattle.blocks.proofs.refuse.judge_block.Tie as tie
+use Rattle.verdict.proofs.judge_block.Statement.{statement}
+use Rattle.verdict.proofs.judge_block.Tie as tie
 
 abbrev given : tie.Start → Block
 given s =

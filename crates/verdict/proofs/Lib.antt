@@ -1,0 +1,4 @@
+-- Laws of a block judged.
+
+-- its tests, one after the other
+pub mod Judging
