@@ -98,7 +98,8 @@ module _ {A : Type 0} where
 -- ---- records whose ids rise
 
 module _ {A : Type 0} (id : A → Id) where
-  none-above : (i : Id) {rs : List A} → All (λ q. below i (id q) ≡ true) rs → count (λ q. same (id q) i) rs ≡ 0
+  -- none of an id that is below all
+  pub none-above : (i : Id) {rs : List A} → All (λ q. below i (id q) ≡ true) rs → count (λ q. same (id q) i) rs ≡ 0
   unfolding count
   none-above i none = refl
   none-above i (more {a} h hs) = rw (same-sym (id a) i, below-apart i (id a) h) (omega (arith, none-above i hs))

@@ -1,7 +1,7 @@
 -- How many confirmed records there will be is told without confirming any: each listed pending record that has none gets one, the second listing of an id finds
 -- it gone, and of the skipped heights the last decides. Assumes nothing.
 use mathlib.Core.Path.{_≡_, refl, sym, ap, ap₂, _∙_}
-use mathlib.Core.Bool.{Bool, true, false, not, _&&_, _||_, cond}
+use mathlib.Core.Bool.{Bool, true, false, not, _&&_, _||_, cond, and-true, and-false}
 use mathlib.Core.List.{List, [], _∷_}
 use mathlib.Core.Option.{Option, none, some}
 use Prim.Native.Nat.{ℕ, suc, _+_, _≤_}
@@ -65,10 +65,6 @@ confirming k B i s u = go (holds i B (s .recent)) refl (find i (s .pending)) (pe
     new : Confirmed
     new = record { id = i; height = B }
 
-    nothing : (a : Bool) → bit (a && false) ≡ 0
-    nothing true = refl
-    nothing false = refl
-
     bits : (a : Bool) → bit a + bit (not a && true) ≡ 1
     bits true = refl
     bits false = refl
@@ -93,7 +89,7 @@ confirming k B i s u = go (holds i B (s .recent)) refl (find i (s .pending)) (pe
     go false e none g =
         record {
           pending = sym (dropped-absent (λ r. r .id) i (s .pending) g);
-          recent = rw g (omega (arith, nothing (not (confirmed-in (s .recent) i))));
+          recent = rw (g, and-false) (omega arith);
           others = λ j d. refl;
           rises = u;
         }
@@ -135,17 +131,9 @@ module _ (i : Id) (ids : List Id) (s t : Estimator) (u : Up (λ r. r .id) (s .pe
       (count-ext _ (λ r. not (confirmed-in (s .recent) i) && same (r .id) i) (λ r. own r (same (r .id) i) refl) (s .pending) ∙ its (not (confirmed-in (s .recent) i)))
       (count-ext _ other (λ r. each r (same (r .id) i)) (s .pending))
     where
-      and-none : (a : Bool) → false ≡ (a && false)
-      and-none true = refl
-      and-none false = refl
-
-      and-yes : (a : Bool) → a ≡ (a && true)
-      and-yes true = refl
-      and-yes false = refl
-
       own : (r : Pending) (b : Bool) → same (r .id) i ≡ b → (b && ((b || listed ids (r .id)) && not (confirmed-in (s .recent) (r .id)))) ≡ (not (confirmed-in (s .recent) i) && b)
-      own r true e = ap (λ (j : Id). not (confirmed-in (s .recent) j)) (same-eq (r .id) i e) ∙ and-yes (not (confirmed-in (s .recent) i))
-      own r false e = and-none (not (confirmed-in (s .recent) i))
+      own r true e = ap (λ (j : Id). not (confirmed-in (s .recent) j)) (same-eq (r .id) i e) ∙ sym (and-true (not (confirmed-in (s .recent) i)))
+      own r false e = sym (and-false (not (confirmed-in (s .recent) i)))
 
       its : (b : Bool) → count (λ r. b && same (r .id) i) (s .pending) ≡ bit (b && any (λ r. same (r .id) i) (s .pending))
       its true = count-one (λ r. r .id) i u
