@@ -1,8 +1,8 @@
 -- How many of a list pass a test: of those that another test keeps, and of records whose ids rise. Assumes nothing.
-use mathlib.Core.Path.{_≡_, refl, sym, ap, ap₂, _∙_}
+use mathlib.Core.Path.{_≡_, refl, sym, ap, _∙_, fun-ext}
 use mathlib.Core.Bool.{Bool, true, false, not, _&&_, _||_, cond, true≢false}
 use mathlib.Core.List.{List, [], _∷_, map}
-use Prim.Native.Nat.{ℕ, suc, _+_}
+use Prim.Native.Nat.{suc, _+_}
 use native.Mathlib.Omega.{arith}
 use lib.ListN.{length}
 use Rattle.rules.specs.Lists.{bit, count, any, keep}
@@ -12,9 +12,7 @@ use Rattle.rules.proofs.Ids.{Up, end, step, same-eq, same-sym, below-apart}
 
 module _ {A : Type 0} where
   pub count-ext : (p q : A → Bool) → ((x : A) → p x ≡ q x) → (xs : List A) → count p xs ≡ count q xs
-  unfolding count
-  count-ext p q h [] = refl
-  count-ext p q h (x ∷ xs) = ap₂ (λ (t : Bool) (n : ℕ). bit t + n) (h x) (count-ext p q h xs)
+  count-ext p q h xs = ap (λ (t : A → Bool). count t xs) (fun-ext h)
 
   -- those that pass a second test, and those that do not
   pub count-split : (p q : A → Bool) (xs : List A) → count p xs ≡ count (λ x. q x && p x) xs + count (λ x. not (q x) && p x) xs

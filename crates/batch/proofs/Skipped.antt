@@ -1,6 +1,6 @@
 -- The skipped heights leave the confirmed records that stay through the last of them, and of the pending records those that last through it: what a height
 -- lets go, a later height would let go too, so the last height alone decides. Assumes nothing.
-use mathlib.Core.Path.{_≡_, refl, sym, ap, ap₂, _∙_}
+use mathlib.Core.Path.{_≡_, refl, sym, ap, ap₂, _∙_, fun-ext}
 use mathlib.Core.Bool.{Bool, true, false, _&&_, cond}
 use mathlib.Core.List.{List, [], _∷_, map}
 use Prim.Native.Nat.{ℕ, zero, suc, _+_, _-_, _/_, _≤_, _<_, max, zero-le, suc-le-suc}
@@ -16,7 +16,6 @@ use Rattle.rules.specs.Ids.{Id}
 use Rattle.rules.specs.Counts.{columns}
 use Rattle.rules.specs.Board.{Board, Pending, Confirmed}
 use Rattle.rules.specs.Estimator.{Estimator, outwaited, moved, prune-window, advance-height, advance-heights, skip-heights}
-use Rattle.lists.proofs.Lists.{keep-ext}
 use Rattle.batch.specs.Needed.{skips, stays, lasts}
 use Rattle.batch.proofs.Counting.{count-ext, count-keep, count-map, keep-implied, keep-all}
 
@@ -96,8 +95,8 @@ skipped-recent k Nothing B s = sym (keep-all (s .recent))
 skipped-recent k (At L) B s = go (B - suc (L .0)) refl
   where
     go : (n : ℕ) → B - suc (L .0) ≡ n → advance-heights k (L .0) n s .recent ≡ keep (stays (At L) B) (s .recent)
-    go zero q = sym (keep-all (s .recent)) ∙ keep-ext (λ c. true) (stays (At L) B) (s .recent) (λ c. rw (none-skipped L B q))
-    go (suc n) q = let e = some-skipped L B n q in recent-after k (L .0) s n ∙ keep-ext (young (L .0 + suc n)) (stays (At L) B) (s .recent) (λ c. rw (e .0, e .1))
+    go zero q = sym (keep-all (s .recent)) ∙ ap (λ (p : Confirmed → Bool). keep p (s .recent)) (fun-ext (λ c. rw (none-skipped L B q)))
+    go (suc n) q = let e = some-skipped L B n q in recent-after k (L .0) s n ∙ ap (λ (p : Confirmed → Bool). keep p (s .recent)) (fun-ext (λ c. rw (e .0, e .1)))
 
 -- of the pending records that last as many are left, by whatever test of their ids
 pub skipped-pending : (k : Board) (last : Last) (B : ℕ) (s : Estimator) (p : Id → Bool)

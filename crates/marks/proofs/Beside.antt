@@ -25,11 +25,6 @@ module _ {A : Type 0} (id : A → Id) where
   beside-none [] = refl
   beside-none (r ∷ rs) = ap (λ (l : List ℕ). 0 ∷ l) (beside-none rs)
 
-  pub beside-ext : (p q : Id → Bool) → ((j : Id) → p j ≡ q j) → (rs : List A) → beside id p rs ≡ beside id q rs
-  unfolding beside
-  beside-ext p q e [] = refl
-  beside-ext p q e (r ∷ rs) = ap₂ (λ (t : Bool) (l : List ℕ). bit t ∷ l) (e (id r)) (beside-ext p q e rs)
-
   -- the next listed id, i, has no record
   pub beside-miss : (mark : Id → Bool) (i : Id) (rs : List A) → count (λ r. same (id r) i) rs ≡ 0 → beside id (λ j. mark j || same j i) rs ≡ beside id mark rs
   unfolding beside count

@@ -1,6 +1,6 @@
 -- The listed ids, one after the other, mark the records that have them: the marks are those of the ids so far, and these and the ids that are left are the whole
 -- list. Assumes nothing.
-use mathlib.Core.Path.{_≡_, refl, sym, ap, _∙_}
+use mathlib.Core.Path.{_≡_, refl, sym, ap, _∙_, fun-ext}
 use mathlib.Core.Bool.{Bool, true, false, _||_, or-false, or-assoc}
 use mathlib.Core.List.{List, [], _++_, map}
 use Prim.Native.Nat.{ℕ, _+_, _-_, _≤_, _<_}
@@ -22,7 +22,7 @@ use Rattle.batch.specs.Needed.{listed}
 use Rattle.batch.proofs.Listing.{next-id, ids-more, ids-none}
 use Rattle.batch.proofs.Counting.{count-one}
 use Rattle.marks.specs.Marks.{beside, noted}
-use Rattle.marks.proofs.Beside.{beside-none, beside-ext, beside-miss, beside-hit}
+use Rattle.marks.proofs.Beside.{beside-none, beside-miss, beside-hit}
 
 -- ---- one id
 
@@ -91,8 +91,5 @@ module _ (size used : ℕ) (table ids marks₀ : List ℕ) where
     pub marking-all : length ids - at < 32 → marks ≡ beside id-of (listed (ids-of ids)) rs ++ drop used marks₀
     unfolding listed any
     marking-all h =
-        g .is
-        ∙ ap (λ (l : List ℕ). l ++ drop used marks₀)
-        (beside-ext id-of (g .mark) (listed (ids-of ids))
-        (λ j. sym (or-false (g .mark j)) ∙ ap (λ (is : List Id). g .mark j || listed is j) (sym (ids-none ids at h)) ∙ g .whole j)
-        rs)
+        let all : g .mark ≡ listed (ids-of ids) = fun-ext (λ j. sym (or-false (g .mark j)) ∙ ap (λ (is : List Id). g .mark j || listed is j) (sym (ids-none ids at h)) ∙ g .whole j) in
+        g .is ∙ ap (λ (mark : Id → Bool). beside id-of mark rs ++ drop used marks₀) all
