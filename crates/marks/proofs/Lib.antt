@@ -1,0 +1,6 @@
+-- Laws of records that are marked.
+
+-- marks beside a table
+pub mod Beside
+-- the listed ids, one after the other
+pub mod Noting

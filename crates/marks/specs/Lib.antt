@@ -1,0 +1,4 @@
+-- Records that are marked.
+
+-- marks beside a table
+pub mod Marks

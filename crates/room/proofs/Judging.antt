@@ -1,0 +1,77 @@
+-- What is needed, from what the code has counted; and for whoever judges a block: room is found exactly if the table has room for all that it will hold once the
+-- list is in. Assumes nothing.
+use mathlib.Core.Path.{_≡_, refl, sym, ap, ap₂, _∙_}
+use mathlib.Core.Bool.{Bool, true}
+use mathlib.Core.List.{List, _∷_, _++_, map}
+use Prim.Native.Nat.{ℕ, zero, suc, _+_, _-_, _*_, _≤_}
+use native.Mathlib.Nat.{not-suc-le-zero, le-of-suc-le-suc}
+use native.Mathlib.Omega.{arith}
+use lib.Dec.{leb}
+use borrow.Author.Tests.{le-leb}
+use lib.ListN.{length, take, replicate}
+use Rattle.kinds.specs.declared.Height.{Height}
+use Rattle.kinds.specs.declared.Last.{Last}
+use Rattle.kinds.specs.declared.State.{State}
+use Rattle.rules.specs.Lists.{count}
+use Rattle.rules.specs.Ids.{Id, rising}
+use Rattle.rules.specs.Records.{records, id-of, sound-table}
+use Rattle.rules.specs.Board.{Board, Lawful, Pending, Confirmed, pending-size, pending-most}
+use Rattle.rules.specs.Memory.{Lent, pending-records, confirmed-records, confirmed-capacity, view}
+use Rattle.rules.specs.Calls.{ids-of, held-once-listed}
+use Rattle.rules.proofs.Well.{Well}
+use Rattle.table.proofs.Sound.{sound-told, sound-room}
+use Rattle.batch.specs.Needed.{listed, needed}
+use Rattle.batch.proofs.Needed.{needed-is, needed-most}
+use Rattle.marks.specs.Marks.{beside}
+use Rattle.room.specs.Room.{last-skipped, least-height, comes-new, marked-count}
+use Rattle.room.proofs.Lasting.{stays-is, adds-is}
+use Rattle.room.proofs.Counting.{many, many-pending, marked-is}
+
+-- ---- the marks
+
+no-marks : (n m : ℕ) → n ≤ m → take {A = ℕ} n (replicate m 0) ≡ replicate n 0
+no-marks zero m h = refl
+no-marks (suc n) zero h = absurd (not-suc-le-zero h)
+no-marks (suc n) (suc m) h = ap (λ (l : List ℕ). 0 ∷ l) (no-marks n m (le-of-suc-le-suc h))
+
+-- what marking asks of a sound table, and of as many marks as it may have records
+pub markable : (n m used : ℕ) (xs : List ℕ) → n ≡ m → pending-size ≤ n → sound-table m pending-most used xs ≡ true
+    → ((32 ≤ n) × (used * n ≤ length xs)) × ((rising (map id-of (records n used xs)) ≡ true) × ((used ≤ pending-most) × (take {A = ℕ} used (replicate pending-most 0) ≡ replicate used 0)))
+markable n m used xs q h s =
+    let g = sound-told n pending-most used xs (ap (λ (x : ℕ). sound-table x pending-most used xs) q ∙ s) in
+    let few : used ≤ pending-most = omega (arith, g .fit) in
+    ((omega arith, sound-room n pending-most used xs g), (g .rise, (few, no-marks used pending-most few)))
+
+-- ---- what is needed
+
+module _ (k : Board) (law : Lawful k) (ids : List Id) (B : ℕ) (last : Last) (used : ℕ) (xs : List ℕ) (cs : List Confirmed) where
+  pub all-needed : (skipped : Last) (n least old new : ℕ) (ms rest : List ℕ) → skipped ≡ last-skipped last B → n ≡ k .table .size → least ≡ least-height skipped
+      → ms ≡ beside id-of (listed ids) (records n used xs) ++ rest → old ≡ count (λ c. leb least (c .height)) cs → new ≡ marked-count (comes-new k skipped cs) ms (pending-records k used xs)
+      → old + new ≡ needed k ids B last (pending-records k used xs) cs
+  unfolding needed pending-records
+  all-needed skipped n least old new ms rest es en el em eo ew =
+      let ps : List Pending = pending-records k used xs in
+      ap₂ (λ (a b : ℕ). a + b)
+      (eo ∙ ap (λ (x : ℕ). count (λ c. leb x (c .height)) cs) (el ∙ ap least-height es) ∙ sym (ap (λ (p : Confirmed → Bool). count p cs) (stays-is last B)))
+      (ew
+      ∙ ap₂ (λ (s : Last) (l : List ℕ). marked-count (comes-new k s cs) l ps) es (em ∙ ap (λ (z : ℕ). beside id-of (listed ids) (records z used xs) ++ rest) en)
+      ∙ marked-is (k .table .read) (law .named) (listed ids) (comes-new k (last-skipped last B) cs) (records (k .table .size) used xs) rest
+      ∙ sym (ap (λ (p : Pending → Bool). count p ps) (adds-is last B k ids cs)))
+
+module _ (k : Board) (ids : List Id) (B : ℕ) (last : Last) (used kept : ℕ) (xs ys : List ℕ) where
+  -- no more than all used records
+  pub within-used : needed k ids B last (pending-records k used xs) (confirmed-records kept ys) ≤ kept + used
+  within-used = omega (arith, needed-most k ids B last (pending-records k used xs) (confirmed-records kept ys), many kept ys, many-pending k used xs)
+
+  -- where each pending record finds a free place there is room
+  pub enough-places : (room : ℕ) → kept ≤ room → used ≤ room - kept → true ≡ leb (needed k ids B last (pending-records k used xs) (confirmed-records kept ys)) room
+  enough-places room h l = sym (le-leb (needed k ids B last (pending-records k used xs) (confirmed-records kept ys)) room (omega (arith, within-used)))
+
+-- ---- for whoever judges a block
+
+-- what `finds_room` answers over memory whose estimator is well-formed
+pub room-is : (k : Board) (s : State) (l : Lent) (ids : List ℕ) (B : Height) (r : Bool) → Well (view k s l)
+    → r ≡ leb (needed k (ids-of ids) (B .0) (s .last) (pending-records k (s .pending) (l .pending)) (confirmed-records (s .recent) (l .recent))) (confirmed-capacity (l .recent))
+    → r ≡ leb (held-once-listed k (ids-of ids) (B .0) (view k s l)) (confirmed-capacity (l .recent))
+unfolding view
+room-is k s l ids B r w e = e ∙ ap (λ (n : ℕ). leb n (confirmed-capacity (l .recent))) (sym (needed-is k (ids-of ids) (B .0) (view k s l) w))
