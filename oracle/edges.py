@@ -517,7 +517,9 @@ def room_cases(board):
         block 4197 aa -> 6
         block 4196 aa -> 7
         sum -> same
-        block 4196 -> 0
+        count confirmed 0 nan
+        block 101 aa -> 1
+        blockraw 4197 {name("aa").hex()}00 -> 1
         {small(100, [late], kept, 2)}
         block 4197 aa -> 6
         block 4196 aa -> 0
