@@ -54,7 +54,7 @@ extern "C" {
 #endif
 
 enum {
-    IZR_VERSION = 2,
+    IZR_VERSION = 3,
     IZR_COUNTS = 3550,
     IZR_PENDING_SIZE = 44,
     IZR_RECENT_SIZE = 36,
@@ -140,10 +140,11 @@ uint32_t izr_tx_left(uint64_t *state, size_t state_len, uint8_t *pending, size_t
  *   IZR_BAD_LIST         the length of ids is not a multiple of IZR_ID_SIZE
  *   IZR_GAP_TOO_WIDE     the height is more than IZR_WIDEST_GAP above the last one. Blocks of no ids, at most that far apart, lead over a wider gap with
  *                        the same result. They are calls of their own: what they have done stays, also where the block itself is then refused
- *   IZR_CONFIRMED_FULL   the confirmed records, and the listings of ids that are pending (each listing counted), are more than the table of confirmed
- *                        records has room for. Lend a longer one, with zeros behind the old bytes, and call again. If it has room for IZR_MOST_RECENT
- *                        already: where there is a last height, and height - 1 is above it, a block of no ids at height - 1 lets go of old records, with
- *                        the same result
+ *   IZR_CONFIRMED_FULL   the table of confirmed records would hold more than it has room for, after the skipped heights have let go of old records and
+ *                        once the list is in. An id that is listed twice counts once; one that is not pending, that still has a record after the skipped
+ *                        heights, or that is let go of in them, needs no further room. The block's own height makes none: it comes after the list. Lend a
+ *                        longer table, with zeros behind the old bytes, and call again: with a place for each used record, and one for each id that is both
+ *                        listed and pending, it is long enough
  */
 uint32_t izr_block_connected(uint64_t *state, size_t state_len, double *confirmed, size_t confirmed_len, double *resolved, size_t resolved_len,
                              uint8_t *pending, size_t pending_len, uint8_t *recent, size_t recent_len, const uint8_t *ids, size_t ids_len,
@@ -212,7 +213,7 @@ uint32_t izr_wide_tx_entered(uint64_t *state, size_t state_len, uint8_t *pending
 uint32_t izr_wide_tx_left(uint64_t *state, size_t state_len, uint8_t *pending, size_t pending_len, const uint8_t *id, size_t id_len);
 
 /*
- * A block is connected, with the ids that it confirms. Its answers are those of izr_block_connected; the blocks of no ids that lead on from a refusal are
+ * A block is connected, with the ids that it confirms. Its answers are those of izr_block_connected; the blocks of no ids that lead over a wider gap are
  * blocks of this function.
  */
 uint32_t izr_wide_block_connected(uint64_t *state, size_t state_len, double *confirmed, size_t confirmed_len, double *resolved,

@@ -33,9 +33,9 @@ def all_targets(bucket, value, first=1):
     return [(bucket, target, value) for target in range(first, TARGETS + 1)]
 
 
-def memory(last, pending=(), recent=(), confirmed=(), resolved=()):
+def memory(last, pending=(), recent=(), confirmed=(), resolved=(), lend=LEND):
     """Memory laid by hand: records, and counts as bucket, target and value."""
-    lines = [LEND, f"state {last} {len(pending)} {len(recent)}"]
+    lines = [lend, f"state {last} {len(pending)} {len(recent)}"]
     lines += [f"byte {table} 0 {b''.join(used).hex()}" for table, used in (("pending", pending), ("confirmed", recent)) if used]
     lines += [count("confirmed", *where) for where in confirmed] + [count("resolved", *where) for where in resolved]
     return joined(lines)
@@ -339,16 +339,29 @@ def capacity_cases(_board):
         enter cc 1000 1 -> 0
         sum -> any"""
 
-    yield "confirmed full, each listing counted", """
+    yield "confirmed full, a repeated listing counted once", """
         lend 88 36 3550 3550
         enter aa 1000 1 -> 0
-        block 2 aa aa -> 7
-        block 2 aa bb bb -> 0
+        block 2 aa aa bb -> 0
+        enter aa 1000 2 -> 0
+        block 2 aa -> 0
+        enter aa 1000 2 -> 0
+        block 3 aa aa -> 0
+        enter bb 1000 20 -> 0
+        sum -> any
+        block 4 bb -> 7
+        block 29 bb -> 7
+        sum -> same
+        block 30 bb bb -> 0
+        sum -> any
+        lend 88 0 3550 3550
         enter aa 1000 1 -> 0
         block 2 aa -> 7
-        sum -> any
-        block 28 -> 0
-        block 28 aa -> 0"""
+        block 2 aa aa -> 7
+        block 2 bb -> 0
+        block 2 aa -> 7
+        leave aa -> 0
+        block 2 aa -> 0"""
 
     yield "order of refusals", """
         lend 88 0 3550 3550
@@ -373,6 +386,185 @@ def capacity_cases(_board):
             sum -> any"""
 
 
+def small(last, pending, recent, places):
+    """Memory laid by hand, with no free place for pending records and so many places for confirmed ones, and some bytes past either table."""
+    return memory(last, pending, recent, lend=f"lend {44 * len(pending) + 43} {36 * places + 35} 3550 3550")
+
+
+def no_room(*blocks):
+    """Blocks that are refused, and leave memory as it is."""
+    return joined(["sum -> any", *(f"block {block} -> 7" for block in blocks), "sum -> same"])
+
+
+def room_cases(board):
+    """Answer 7 (request L5): exactly where the confirmed table, after the skipped heights have pruned it and once the list is in, would hold more than its capacity."""
+    once, width, gone = board.decay, board.width, 100 + board.life
+    aa, bb = pending_record("aa", 33, 100, 0), pending_record("bb", 33, 100, 0)
+    late, late_cc = pending_record("aa", 33, TOP, 0), pending_record("cc", 33, TOP, 0)  # these do not expire
+    kept = [recent_record("bb", TOP)]  # and this is not pruned
+
+    def resolved_at(columns, end):
+        """Resolved counts of an id entered at 100, each decayed from the height on at which the column's time is up."""
+        return [(33, column, decayed(board, end + 1 - 100 - width * column)) for column in columns]
+
+    yield "room: an id listed twice counts once, and one that is not pending needs none", f"""
+        {small("-", [aa], [], 0)}
+        {no_room("101 aa", "101 aa aa aa")}
+        block 101 bb bb -> 0
+        {small("-", [aa], [], 1)}
+        block 101 aa aa aa -> 0
+        sum -> any
+        {laid(101, [], [recent_record("aa", 101)], all_targets(33, once), all_targets(33, once), lend="lend 87 71 3550 3550")}
+        {small("-", [aa, bb], [], 1)}
+        {no_room("101 aa bb", "101 aa bb aa", "101 bb bb aa aa")}
+        block 101 bb cc bb -> 0
+        sum -> any
+        {small("-", [aa, bb], [], 2)}
+        block 101 aa bb aa bb bb -> 0
+        sum -> any
+        {small("-", [aa], [recent_record("bb", 100)], 1)}
+        {no_room("101 cc aa", "101 aa bb")}
+        block 101 cc bb dd cc -> 0
+        sum -> any"""
+
+    through = [column for column in range(1, 26) if width * column <= 2]
+    yield "room: an id that still has a record needs no further room", f"""
+        {small(100, [aa], [recent_record("aa", 99)], 1)}
+        block 103 aa aa -> 0
+        sum -> any
+        {small(100, [aa], [recent_record("aa", 103)], 1)}
+        block 103 aa aa -> 0
+        sum -> any
+        {laid(103, [], [recent_record("aa", 103)], resolved=resolved_at(through, 103), lend="lend 87 71 3550 3550")}
+        {small(100, [aa], [recent_record("bb", 99)], 1)}
+        {no_room("101 aa", "103 aa", "103 bb aa", "100 aa", "99 aa")}
+        {small(100, [aa], [recent_record("aa", 74)], 1)}
+        block 101 aa -> 0
+        {small(100, [aa], [recent_record("aa", 90)], 1)}
+        block 100 aa -> 0
+        {small(100, [aa], [recent_record("aa", 90)], 1)}
+        block 95 aa -> 0
+        sum -> any
+        {small("-", [aa], [recent_record("aa", 5)], 1)}
+        block 101 aa -> 0
+        sum -> any"""
+
+    yield "room: an id whose record is pruned in the skipped heights needs a place again", f"""
+        {small(101, [late, late_cc], [recent_record("aa", 100), recent_record("bb", 101)], 2)}
+        {no_room("126 aa cc", "127 aa cc", "127 cc aa aa")}
+        block 127 aa -> 0
+        sum -> any
+        {small(101, [late, late_cc], [recent_record("aa", 100), recent_record("bb", 101)], 3)}
+        block 127 aa cc -> 0
+        sum -> any
+        {small(101, [late], [recent_record("aa", 100)], 1)}
+        block 127 aa aa -> 0
+        sum -> any"""
+
+    counted = {"confirmed": all_targets(33, once), "resolved": all_targets(33, once), "lend": "lend 87 71 3550 3550"}
+    for last in 101, 125:
+        yield f"room: the skipped heights after {last} make it after 25 blocks, and the block's own height makes none", f"""
+            {small(last, [late], [recent_record("bb", 100)], 1)}
+            {no_room("126 aa", f"{last + 1} aa")}
+            block 127 aa -> 0
+            sum -> any
+            {laid(127, [], [recent_record("aa", 127)], **counted)}"""
+
+    yield "room: without skipped heights nothing is pruned", f"""
+        {small(200, [late], [recent_record("bb", 100)], 1)}
+        {no_room("201 aa", "200 aa", "199 aa", "150 aa", "127 aa", "0 aa")}
+        block 202 aa -> 0
+        sum -> any
+        {laid(202, [], [recent_record("aa", 202)], **counted)}
+        {small("-", [late], [recent_record("bb", 100)], 1)}
+        {no_room("202 aa", "127 aa", "0 aa", f"{TOP} aa")}
+        block 202 -> 0
+        block 202 aa -> 0
+        sum -> any"""
+
+    before = [height for height in (102, 125, 126, 127, gone - 1, gone) if height <= gone]
+    yield "room: an id that expires in the skipped heights needs none", f"""
+        {small(101, [pending_record("aa", 33, 100, 1 // width)], kept, 1)}
+        {no_room(*(f"{height} aa" for height in before))}
+        block {gone + 1} aa aa -> 0
+        sum -> any
+        {laid(gone + 1, [], kept, resolved=resolved_at(range(1 // width + 1, 26), gone + 1), lend="lend 87 71 3550 3550")}
+        {small(gone - 1, [pending_record("aa", 33, 100, 24)], kept, 1)}
+        {no_room(f"{gone} aa")}
+        block {gone + 1} aa -> 0
+        sum -> any"""
+
+    outlived = [pending_record("aa", 33, 100, 25)]
+    yield "room: resolved-through 25 goes at the next height, if that is skipped", f"""
+        {small(100, outlived, kept, 1)}
+        {no_room("101 aa", "100 aa", "99 aa")}
+        block 102 aa -> 0
+        sum -> any
+        {laid(102, [], kept, lend="lend 87 71 3550 3550")}
+        {small("-", outlived, kept, 1)}
+        {no_room("102 aa")}
+        {small(100, outlived, kept, 2)}
+        block 101 aa -> 0
+        sum -> any
+        {laid(101, [], [recent_record("aa", 101), *kept], all_targets(33, once), lend="lend 87 107 3550 3550")}"""
+
+    yield "room: 7 after 5 and 6", f"""
+        {small(100, [late], kept, 1)}
+        sum -> any
+        blockraw 101 {name("aa").hex()}00 -> 5
+        blockraw 101 00{name("aa").hex()} -> 5
+        blockraw 4197 {name("aa").hex()}00 -> 5
+        block 4197 aa -> 6
+        block 4196 aa -> 7
+        sum -> same
+        count confirmed 0 nan
+        block 101 aa -> 1
+        blockraw 4197 {name("aa").hex()}00 -> 1
+        {small(100, [late], kept, 2)}
+        block 4197 aa -> 6
+        block 4196 aa -> 0
+        sum -> any"""
+
+    mixed = [pending_record("0a", 0, 100, 0), *(pending_record(f"0{digit}", 0, TOP, 0) for digit in "bcdef"), pending_record("10", 0, 100, 25)]
+    heights = [recent_record(*record) for record in (("0b", 100), ("0c", 110), ("11", 100), ("12", 101), ("13", TOP), ("14", 126))]
+    held = 7 if gone <= 126 else 8  # 0c, 12, 13 and 14 stay; 0b, 0d and 0e, and 0a where it lasts, need a place each; 0f is not listed, 10 expires
+    listed = "0a 0b 0c 0d 0e 0d 10 11 0b 77"
+    yield "room: all of it in one block", f"""
+        {small(101, mixed, heights, held - 1)}
+        {no_room(f"127 {listed}")}
+        {small(101, mixed, heights, held)}
+        {no_room(f"126 {listed} 0f")}
+        block 127 {listed} -> 0
+        sum -> any"""
+
+    outwaited = [column for column in range(1, 26) if width * column < 8]
+    waited = [(33, column, decayed(board, 9 - width * column)) for column in outwaited]
+    first = [(bucket, target, decayed(board, 28)) for bucket in range(3) for target in range(1, 26)]
+    within = all_targets(33, once, first=len(outwaited) + 1)
+    yield "a small node whose full table the gap clears", f"""
+        lend 176 108 3550 3550
+        start -> 0
+        enter aa 1000 100 -> 0
+        enter bb 1050 100 -> 0
+        enter cc 1102 100 -> 0
+        block 101 aa bb cc -> 0
+        enter dd 5000 120 -> 0
+        {no_room("102 dd", "121 dd", "127 dd", "127 aa dd dd")}
+        block 128 dd dd aa -> 0
+        sum -> any
+        {laid(128, [], [recent_record("dd", 128)], first + within, first + waited + within, lend="lend 176 108 3550 3550")}
+        enter aa 1000 128 -> 0
+        enter bb 1000 128 -> 0
+        enter cc 1000 128 -> 0
+        block 129 aa bb cc -> 7
+        block 129 bb aa -> 0
+        leave cc -> 0
+        enter cc 1000 150 -> 0
+        block 154 cc -> 7
+        block 155 cc -> 0
+        sum -> any"""
+
+
 def large_cases(board):
     (pending, pending_bytes), (recent, recent_bytes) = MOST[board]
     full = file(pending=[pending_record(f"{at:04x}", at % 142, at, at % 25) for at in range(pending)], board=board)
@@ -393,12 +585,19 @@ def large_cases(board):
 
     many = file(last=9, recent=[recent_record(f"{at:04x}", at) for at in range(recent)], board=board)
     yield f"{recent:,} confirmed", f"""
-        lend 44 {recent_bytes} 3550 3550
+        lend 132 {recent_bytes} 3550 3550
         read {many.hex()} -> 0
-        enter 0011 1000 1 -> 0
-        block 40 0011 -> 7
-        block 40 -> 0
-        block 40 0011 -> 0
+        enter 0011 1000 9 -> 0
+        enter fffe 1000 9 -> 0
+        enter ffff 1000 9 -> 0
+        sum -> any
+        block 10 ffff -> 7
+        block 26 ffff 0011 -> 7
+        block 27 fffe ffff -> 7
+        sum -> same
+        block 10 0011 0011 -> 0
+        block 27 ffff ffff eeee -> 0
+        block 28 fffe -> 0
         sum -> any"""
 
     ids = b"".join(name(f"{at:04x}") for at in range(5_000)).hex()
@@ -436,7 +635,7 @@ def zero_row_cases(board):
 
 def scripts(board=NARROW):
     """Each case's title, the bytes of its script, and for each printed line the answer, `any`, or the number of the line that it repeats."""
-    makers = rate_cases, floor_cases, worked_cases, expiry_cases, gap_cases, estimate_cases, file_cases, record_cases, count_cases, capacity_cases, large_cases
+    makers = rate_cases, floor_cases, worked_cases, expiry_cases, gap_cases, estimate_cases, file_cases, record_cases, count_cases, capacity_cases, room_cases, large_cases
     first = "" if board is NARROW else f"board {board.word}\n"
     for maker in (*makers, zero_row_cases):
         for title, text in maker(board):

@@ -67,6 +67,24 @@ FILES = (
     4,
 )
 
+# A confirmed table of one place, that gaps clear or do not: aa and bb again and again, bb expiring at 145.
+ROOM = (
+    "lend 88 36 3550 3550",
+    [
+        "enter aa 5000 100",
+        "enter bb 5000 120",
+        "block 101 aa",
+        "block 101 bb aa bb",
+        "block 102 aa",
+        "block 126 bb",
+        "block 127 bb",
+        "block 128 bb aa",
+        "block 145",
+    ],
+    ["sum", "block 146 bb aa", "sum"],
+    4,
+)
+
 TOGETHER = 64
 
 
@@ -78,7 +96,7 @@ def sequences(first, alphabet, probes, longest):
 
 def scripts():
     """Each script's name and bytes."""
-    for title, kind in (("steps", STEPS), ("damage", DAMAGE), ("files", FILES)):
+    for title, kind in (("steps", STEPS), ("damage", DAMAGE), ("files", FILES), ("room", ROOM)):
         all_sequences = sequences(*kind)
         number = 0
         while batch := list(islice(all_sequences, TOGETHER)):

@@ -4,6 +4,7 @@ import random
 import struct
 
 from files import BUCKETS, COUNTS, NARROW, PENDING, RATES, RECENT, TARGETS, WIDE, bits, file, place, u32
+from files import name as id_bytes
 from histories import HIGHEST, LEAST, MINUS_ZERO, any_file, any_pattern, damaged_file, near_threshold
 from walk import TOP, Walk, any_height, any_rate
 
@@ -231,12 +232,67 @@ def odd_lengths(rng, board):
 
 
 def crowded(rng, board):
-    """Tables of a few places: full ones, and listings counted each."""
+    """Tables of a few places, that are full, and that gaps clear."""
     walk = Walk(rng, board, pool=rng.choice([3, 5, 8]))
+    walk.steadiness = rng.choice([0.2, 0.6])
     walk.lend(PENDING * rng.randint(0, 5), RECENT * rng.randint(0, 6))
     walk.start()
     walk.steps(80)
     return walk.text()
+
+
+def about_room(rng, board):
+    """Blocks on both sides of the confirmed table's capacity (request L5): records about 25 blocks old in them, ids that have a record or expire, repeats; each on
+    memory laid for it, and then on what it leaves."""
+    walk = Walk(rng, board, pool=9)
+    for _ in range(9):
+        height, listed = lay_about_room(walk)
+        walk.block(height, listed)
+        walk.add("sum")
+        for _ in range(rng.choice([0, 0, 1, 2, 4])):
+            walk.step()
+    return walk.text()
+
+
+def lay_about_room(walk):
+    """Lays memory whose confirmed table is just long enough for a block, or has a place too few or too many; answers the block's height and its list."""
+    rng, life = walk.rng, walk.board.life
+    last = rng.choice([None, 0, 100, 100, 100, 800_000, TOP - 200])
+    now = 100 if last is None else last
+    far = [rng.randint(2, life + 30), 2, 3, *range(TARGETS, TARGETS + 4), *range(life, life + 3)]
+    height = walk.bounded(now + rng.choice([rng.choice(far), rng.choice(far), rng.choice([1, 1, 0, -1, -rng.randrange(60)])]))
+    skipped = None if last is None or height <= last + 1 else height - 1  # the last of the skipped heights, if there are any
+
+    def near(age):
+        """A height that is about so old at the last of the skipped heights, or another that tells."""
+        edge = height - 1 - age + rng.choice([-1, 0, 0, 1])
+        return walk.bounded(rng.choice([edge, edge, edge, height, now, TOP]))
+
+    pending, recent, (waiting, done) = {}, {}, rng.choice([(0.6, 0.5), (0.9, 0.3)])
+    for one in sorted(set(map(id_bytes, walk.pool))):
+        if walk.chance(waiting):
+            pending[one] = near(life - 1), rng.choice([0, 0, 1, 24, 25])
+        if walk.chance(done):
+            recent[one] = near(TARGETS)
+    listed = [one for one in walk.pool if walk.chance(0.7)]
+    listed += rng.choices(walk.pool, k=rng.choice([0, 0, 1, 3]))
+    rng.shuffle(listed)
+
+    stay = {one for one, at in recent.items() if skipped is None or skipped - at <= TARGETS}
+    last_on = {one for one, (entry, through) in pending.items() if skipped is None or through < TARGETS and skipped - entry < life}
+    held = len(stay | last_on & set(map(id_bytes, listed)))
+    places = max(len(recent), held + rng.choice([-1, -1, 0, 0, 1]))
+    walk.lend(PENDING * rng.choice([len(pending), 12]), RECENT * places + rng.choice([0, 35]))
+    walk.add("state", "-" if last is None else last, len(pending), len(recent))
+    for table, records in (
+        ("pending", [one + u32(rng.randrange(BUCKETS)) + u32(entry) + u32(through) for one, (entry, through) in pending.items()]),
+        ("confirmed", [one + u32(at) for one, at in recent.items()]),
+    ):
+        if records:
+            walk.add("byte", table, 0, b"".join(records).hex())
+    walk.last, walk.pending = last, {one.hex(): entry for one, (entry, _) in pending.items()}
+    walk.recent = {one.hex(): at for one, at in recent.items()}
+    return height, listed
 
 
 def wide_gaps(rng, board):
@@ -389,6 +445,7 @@ SHARES = {
     exact_lengths: 30,
     odd_lengths: 50,
     crowded: 60,
+    about_room: 60,
     wide_gaps: 4,
     damaged_memory: 60,
     rates: 14,

@@ -1,5 +1,5 @@
-"""Document 01 in Python, and document 02's slower horizon (L10) and floor (L9), written from their words and not from the Rust. Python's floats are binary64, so
-counts agree with the Rust's bit for bit or not at all. The Rust is the narrow board alone."""
+"""Document 01 in Python, and document 02's slower horizon (L10), floor (L9) and full confirmed table (L5), written from their words and not from the Rust. Python's
+floats are binary64, so counts agree with the Rust's bit for bit or not at all. The Rust is the narrow board alone."""
 
 import math
 import struct
@@ -133,26 +133,42 @@ def lay(table, record, capacity, records):
 
 
 class Block:
-    """One accepted block: the steps of document 01 over the estimator taken out of the memory."""
+    """One block: the steps of document 01 over the estimator taken out of the memory, which is as it was until the last step lays the estimator back."""
 
     def __init__(self, memory, pending, recent):
         self.memory, self.pending, self.recent = memory, pending, recent
+        self.confirmed, self.resolved = memory.confirmed[:COUNTS], memory.resolved[:COUNTS]
         self.board, self.last = memory.board, memory.last
 
     def connect(self, ids, height):
-        advances = self.last is None or height > self.last
-        if advances and self.last is not None:
+        self.skip(height)
+        self.confirm(ids, height)
+        self.finish(height)
+
+    def advances(self, height):
+        return self.last is None or height > self.last
+
+    def skip(self, height):
+        """Step 1: if the block advances and there is a last height, the heights strictly between."""
+        if self.last is not None and self.advances(height):
             for between in range(self.last + 1, height):
                 self.advance(between)
+
+    def confirm(self, ids, height):
+        """Step 2: the listed ids."""
         for name in ids:
             if self.recent.get(name) == height:
                 self.pending.pop(name, None)
             elif name in self.pending:
                 self.count(*self.pending.pop(name), height)
                 self.recent[name] = height
-        if advances:
+
+    def finish(self, height):
+        """Step 3: the block's own height, if it advances."""
+        if self.advances(height):
             self.advance(height)
         self.memory.last = self.last
+        self.memory.lay_counts(self.confirmed, self.resolved)
         self.memory.lay_pending(self.pending)
         self.memory.lay_recent(self.recent)
 
@@ -160,22 +176,21 @@ class Block:
         wait = max(1, height - entry)
         for column in range(1, COLUMNS + 1):
             if wait <= self.board.width * column:
-                self.memory.confirmed[place(bucket, column)] += 1.0
+                self.confirmed[place(bucket, column)] += 1.0
             if through < column:
-                self.memory.resolved[place(bucket, column)] += 1.0
+                self.resolved[place(bucket, column)] += 1.0
 
     def advance(self, height):
         for name, (bucket, entry, through) in list(self.pending.items()):
             reached = max(through, self.board.outwaited(height - entry))
             for column in range(through + 1, reached + 1):
-                self.memory.resolved[place(bucket, column)] += 1.0
+                self.resolved[place(bucket, column)] += 1.0
             self.pending[name] = [bucket, entry, reached]
             if reached == COLUMNS:
                 del self.pending[name]
         self.last = height
         decay = self.board.decay
-        decayed = ([count * decay for count in counts[:COUNTS]] for counts in (self.memory.confirmed, self.memory.resolved))
-        self.memory.lay_counts(*decayed)
+        self.confirmed, self.resolved = ([count * decay for count in counts] for counts in (self.confirmed, self.resolved))
         self.recent = {name: at for name, at in self.recent.items() if height - at <= PRUNED_AFTER}
 
 
@@ -282,10 +297,12 @@ class Run:
             raise Refused(BAD_LIST)
         if self.memory.last is not None and height - self.memory.last > 4_096:
             raise Refused(GAP_TOO_WIDE)
-        listed = [ids[at : at + 32] for at in range(0, len(ids), 32)]
-        if len(recent) + sum(name in pending for name in listed) > self.memory.recent_capacity():
+        block = Block(self.memory, pending, recent)
+        block.skip(height)
+        block.confirm([ids[at : at + 32] for at in range(0, len(ids), 32)], height)
+        if len(block.recent) > self.memory.recent_capacity():
             raise Refused(CONFIRMED_FULL)
-        Block(self.memory, pending, recent).connect(listed, height)
+        block.finish(height)
         return DONE
 
     def rate(self, target):

@@ -201,6 +201,21 @@ def turn_cases():
         {OFF}
         estimate 1 -> 1"""
 
+    full = ["enter aa 5000 100 -> 0", "block 101 aa -> 0", "enter bb 5000 101 -> 0"]
+    yield "what expires in the gap on one board needs a place on the other", f"""
+        {OFF}
+        lend 44 36 3550 3550
+        {joined(full)}
+        block 126 bb -> 7
+        block 127 bb -> 0
+        sum -> any
+        {ON}
+        lend 44 36 3550 3550
+        {joined(full)}
+        block 127 bb -> 7
+        block 128 bb -> 0
+        sum -> any"""
+
     first, last = file(last=101, board=NARROW), file(last=101, board=WIDE)
     yield "a file is the board's that wrote it", f"""
         {OFF}

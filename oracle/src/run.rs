@@ -180,12 +180,11 @@ impl Session<'_> {
         let (ids, odd) = ids.as_chunks::<ID>();
         let ids: Vec<Txid> = ids.iter().map(txid).collect();
         let gap = self.memory.state.last.map_or(0, |last| height.saturating_sub(last));
-        let listings = ids.iter().filter(|id| estimator.is_pending(id)).count();
         let refusal = if !odd.is_empty() {
             Some(5)
         } else if gap > self.widest_gap {
             Some(6)
-        } else if self.memory.state.recent + listings > self.memory.recent_capacity() {
+        } else if estimator.held_once_listed(&ids, height) > self.memory.recent_capacity() {
             Some(7)
         } else {
             None

@@ -67,7 +67,8 @@ pub enum Refusal {
     BadList,
     /// The height is more than [`WIDEST_GAP`](crate::WIDEST_GAP) above the last one. Only [`try_block_step`](crate::Estimator::try_block_step) answers it.
     GapTooWide,
-    /// There would be more than 1,000,000 confirmed records, each listing of a pending transaction counted as one.
+    /// The block would leave more than 1,000,000 confirmed records, counted once the skipped heights have let go of the old ones and all of its list is in. A
+    /// transaction that is listed twice counts once; one that has such a record already, or is let go of in the skipped heights, needs no further one.
     ConfirmedFull,
     /// The first eight bytes are not those of a history.
     BadMagic,

@@ -98,29 +98,29 @@ impl<B: Board> Estimator<B> {
     /// After a block that was above the last height and was not refused, [`last_height`](Self::last_height) is the block's height.
     ///
     /// # Errors
-    /// [`ConfirmedFull`](Refusal::ConfirmedFull): there would be more than 1,000,000 confirmed records, each listing of a pending transaction counted as one.
-    /// (The original goes on, and then writes a history that it does not read again.) One block to a height that lists each transaction once never leads
-    /// there: the records of 27 heights are kept at most, 10,000 of each. A restored history can, and so can blocks at or below the last height, which let go
-    /// of no record.
+    /// [`ConfirmedFull`](Refusal::ConfirmedFull): the block would leave more than 1,000,000 confirmed records, counted once the skipped heights have let go of
+    /// the old ones and all of its list is in, and before its own height lets go of any. (The original goes on, and then writes a history that it does not read
+    /// again.) One block to a height never leads there: the records of 27 heights are kept at most, 10,000 of each. A restored history can, and so can blocks
+    /// at or below the last height, which let go of no record.
     pub fn try_block_connected(&mut self, confirmed_txids: &[Txid], block_height: u32) -> Result<(), Refusal> {
-        let Err(refusal) = self.try_block_step(confirmed_txids, block_height) else { return Ok(()) };
-        if self.last_height().is_none_or(|last| last.saturating_add(1) >= block_height) {
-            return Err(refusal);
+        let answer = self.try_block_step(confirmed_txids, block_height);
+        if answer != Err(Refusal::GapTooWide) {
+            return answer;
         }
         let mut ahead = self.clone();
-        ahead.advance_to(block_height - 1);
+        ahead.come_near(block_height);
         ahead.try_block_step(confirmed_txids, block_height)?;
         *self = ahead;
         Ok(())
     }
 
-    /// Goes through the heights up to this one by blocks of no ids. A block above them is then what it would have been without.
-    fn advance_to(&mut self, height: u32) {
+    /// Goes through heights, by blocks of no ids, until this one is no more than [`WIDEST_GAP`] above the last. A block there is then what it would have been
+    /// without.
+    fn come_near(&mut self, height: u32) {
         while let Some(last) = self.last_height()
-            && last < height
+            && height.saturating_sub(last) > WIDEST_GAP
         {
-            let next = height.min(last.saturating_add(WIDEST_GAP));
-            self.try_block_step(&[], next).expect("a block of no ids within the widest gap");
+            self.try_block_step(&[], last + WIDEST_GAP).expect("a block of no ids within the widest gap");
         }
     }
 
@@ -129,7 +129,7 @@ impl<B: Board> Estimator<B> {
     /// # Errors
     /// [`GapTooWide`](Refusal::GapTooWide), [`ConfirmedFull`](Refusal::ConfirmedFull).
     pub fn try_block_step(&mut self, confirmed_txids: &[Txid], block_height: u32) -> Result<(), Refusal> {
-        let listed = confirmed_txids.len().min(MOST_RECENT);
+        let listed = confirmed_txids.len().min(self.pending_len());
         let room = (self.confirmed_len() + listed).min(MOST_RECENT);
         self.recent.resize(room * RECENT_SIZE, 0);
         let Self { state, confirmed, resolved, pending, recent, .. } = self;

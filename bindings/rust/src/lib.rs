@@ -93,7 +93,7 @@ pub const WIDEST_GAP: u32 = 4_096;
 pub const FLOOR: u64 = 1_000;
 
 /// The version of the library's interface that this crate is for: `IZR_VERSION` of `include/izrughem.h`.
-const VERSION: u32 = 2;
+const VERSION: u32 = 3;
 /// What the library answers for a rate that has no bucket: `IZR_NO_BUCKET`.
 const NO_BUCKET: u64 = 142;
 /// 142 buckets of 25 columns.

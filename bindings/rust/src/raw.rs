@@ -10,6 +10,8 @@ use crate::boards::Board;
 #[cfg(test)]
 mod pages;
 #[cfg(test)]
+mod room;
+#[cfg(test)]
 mod tests;
 
 /// The state: whether there is a last height, the height, and how many pending and confirmed records are used.

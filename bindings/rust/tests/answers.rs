@@ -16,6 +16,8 @@ on_each_board! {
     a_gap_of_any_width_is_taken,
     confirmed_records_are_kept_for_25_blocks,
     a_full_table_of_confirmed_records_refuses_a_block_as_a_whole,
+    a_full_table_takes_what_needs_no_further_record,
+    the_last_place_is_enough_for_a_transaction_listed_twice,
     an_estimator_can_be_shared_between_threads,
     histories_are_refused_by_their_bytes,
 }
@@ -114,36 +116,87 @@ fn confirmed_records_are_kept_for_25_blocks<B: Board>() {
     }
 }
 
-/// An estimator with last height 100, 1,000,000 confirmed records of it, and one transaction that is pending.
-fn full<B: Board>() -> Estimator<B> {
+/// The id of a confirmed record of [`holding`].
+fn recorded(record: u32) -> Txid {
+    let mut id = [0; 32];
+    id[..4].copy_from_slice(&record.to_be_bytes());
+    Txid(id)
+}
+
+/// An estimator with last height 1,000, so many confirmed records of one height, and a transaction, 255, that is pending since another.
+fn holding<B: Board>(records: u32, height: u32, entry: u32) -> Estimator<B> {
     let mut seen = Estimator::<B>::new();
-    seen.block_connected(&[], 100);
+    seen.block_connected(&[], 1_000);
     let mut history = seen.to_history_bytes();
     history.truncate(history.len() - 4);
-    history.extend(1_000_000_u32.to_le_bytes());
-    for record in 0..1_000_000_u32 {
-        history.extend(record.to_be_bytes());
-        history.extend([0; 28]);
-        history.extend(100_u32.to_le_bytes());
+    history.extend(records.to_le_bytes());
+    for record in 0..records {
+        history.extend(recorded(record).as_bytes());
+        history.extend(height.to_le_bytes());
     }
-    let mut full = Estimator::from_history_bytes(&history).expect("as many records as there may be");
-    assert_eq!(full.try_tx_entered(id(255), 5_000, 120), Ok(()));
-    full
+    let mut holding = Estimator::from_history_bytes(&history).expect("no more records than there may be");
+    assert_eq!(holding.try_tx_entered(id(255), 5_000, entry), Ok(()));
+    holding
 }
 
 fn a_full_table_of_confirmed_records_refuses_a_block_as_a_whole<B: Board>() {
-    let mut full = full::<B>();
+    let mut full = holding::<B>(1_000_000, 1_000, 1_020);
     let before = full.to_history_bytes();
-    // Height 126 lets go of the records: up to there the block has no place, gone through the heights before it or not.
-    for height in [99, 100, 101, 126] {
+    // Height 1,026 lets go of the records, and a block's own height comes after its list: so a block has no place up to there.
+    for height in [999, 1_000, 1_001, 1_026] {
         assert_eq!(full.try_block_connected(&[id(255)], height), Err(Refusal::ConfirmedFull), "{height}");
-        assert_eq!((full.last_height(), full.pending_len(), full.confirmed_len()), (Some(100), 1, 1_000_000));
+        assert_eq!((full.last_height(), full.pending_len(), full.confirmed_len()), (Some(1_000), 1, 1_000_000));
     }
-    full.block_connected(&[id(255)], 101);
+    full.block_connected(&[id(255)], 1_001);
     assert!(full.to_history_bytes() == before, "a refused block changes nothing");
-    assert_eq!(full.try_block_connected(&[id(254)], 101), Ok(()), "what is not pending needs no place");
-    assert_eq!(full.try_block_connected(&[id(255)], 127), Ok(()));
-    assert_eq!((full.last_height(), full.pending_len(), full.confirmed_len()), (Some(127), 0, 1));
+    assert_eq!(full.try_block_connected(&[id(254)], 1_001), Ok(()), "what is not pending needs no place");
+    assert_eq!(full.try_block_step(&[id(255)], 1_027), Ok(()), "the skipped heights let go of the records, in the same call");
+    assert_eq!((full.last_height(), full.pending_len(), full.confirmed_len()), (Some(1_027), 0, 1));
+}
+
+fn a_full_table_takes_what_needs_no_further_record<B: Board>() {
+    let mut full = holding::<B>(1_000_000, 1_000, 1_000);
+    for (height, record) in [(1_001, 7), (1_001, 7), (1_003, 7), (990, 999_999)] {
+        assert_eq!(full.try_tx_entered(recorded(record), 5_000, 1_000), Ok(()));
+        assert_eq!(full.try_block_connected(&[recorded(record), id(255)], height), Err(Refusal::ConfirmedFull), "{height}");
+        assert_eq!(full.try_block_connected(&[recorded(record), id(254), recorded(record)], height), Ok(()), "{height}");
+        assert_eq!((full.pending_len(), full.confirmed_len()), (1, 1_000_000), "{height}");
+    }
+    assert_eq!(full.last_height(), Some(1_003));
+}
+
+fn the_last_place_is_enough_for_a_transaction_listed_twice<B: Board>() {
+    let mut nearly = holding::<B>(999_999, 1_000, 1_000);
+    assert_eq!(nearly.try_tx_entered(id(254), 5_000, 1_000), Ok(()));
+    assert_eq!(nearly.try_block_connected(&[id(254), id(255)], 1_001), Err(Refusal::ConfirmedFull));
+    assert_eq!(nearly.try_block_connected(&[id(255); 5], 1_001), Ok(()));
+    assert_eq!((nearly.pending_len(), nearly.confirmed_len()), (1, 1_000_000));
+    assert_eq!(nearly.try_block_connected(&[id(254)], 1_002), Err(Refusal::ConfirmedFull));
+}
+
+/// A transaction that is let go of at 1,002, so many blocks after its entry, beside a full table of records that stay.
+fn let_go_of_at_1002<B: Board>(after: u32) -> Estimator<B> {
+    holding(1_000_000, 1_002, 1_002 - after)
+}
+
+#[test]
+fn what_is_let_go_of_in_the_skipped_heights_needs_no_record() {
+    fn check<B: Board>(mut full: Estimator<B>) {
+        assert_eq!(full.try_block_connected(&[id(255)], 1_002), Err(Refusal::ConfirmedFull));
+        assert_eq!(full.try_block_connected(&[id(255)], 1_003), Ok(()));
+        assert_eq!((full.last_height(), full.pending_len(), full.confirmed_len()), (Some(1_003), 0, 1_000_000));
+    }
+    check(let_go_of_at_1002::<Base>(25));
+    check(let_go_of_at_1002::<Wide>(150));
+    // After 25 blocks the wide board has not let go of it.
+    assert_eq!(let_go_of_at_1002::<Wide>(25).try_block_connected(&[id(255)], 1_003), Err(Refusal::ConfirmedFull));
+}
+
+#[test]
+fn a_list_of_thousands_asks_for_no_more_records_than_are_pending() {
+    let mut quad = quad::<Base>();
+    assert_eq!(quad.try_block_connected(&vec![id(3); 20_000], 102), Ok(()));
+    assert_eq!((quad.pending_len(), quad.confirmed_len()), (1, 3));
 }
 
 fn an_estimator_can_be_shared_between_threads<B: Board>() {

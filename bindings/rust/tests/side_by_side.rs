@@ -241,6 +241,28 @@ fn a_full_table_that_the_skipped_heights_clear() {
     }
 }
 
+/// What the library takes since request L5: ids that need no further record, of a table with no place left.
+#[test]
+fn a_full_table_takes_what_needs_no_further_record() {
+    let full = full(100);
+    let mut id = [0; 32];
+    id[3] = 7;
+    for (entry, height) in [(100, 101), (100, 100), (90, 95), (101, 103), (70, 110)] {
+        let mut pair = read(&full).expect("as many records as there may be");
+        pair.tx_entered(id, 5_000, entry);
+        pair.tx_entered([255; 32], 5_000, 70);
+        pair.block_connected(&[id, [254; 32], id, id], height);
+        assert_eq!(pair.here.confirmed_len(), 1_000_000, "{height}");
+        pair.check();
+    }
+    // What entered at 70 is let go of at 101, so it needs no record at 103.
+    let mut pair = read(&full).expect("as many records as there may be");
+    pair.tx_entered([255; 32], 5_000, 70);
+    pair.block_connected(&[[255; 32]], 103);
+    assert_eq!((pair.here.last_height(), pair.here.pending_len(), pair.here.confirmed_len()), (Some(103), 0, 1_000_000));
+    pair.check();
+}
+
 /// A history with records of both kinds, ids rising.
 fn history() -> Vec<u8> {
     let mut pair = Pair::new();

@@ -113,9 +113,9 @@ fn the_library_has_this_crates_version() {
 }
 
 #[test]
-#[should_panic(expected = "has version 1 of its interface, and this crate is for version 2")]
+#[should_panic(expected = "has version 2 of its interface, and this crate is for version 3")]
 fn another_version_is_told() {
-    expect_version(1);
+    expect_version(2);
 }
 
 fn null_pointers_with_no_elements_make_an_estimator_without_tables<B: Board>() {
