@@ -3,9 +3,9 @@ use mathlib.Core.Path.{_≡_, refl, sym, ap, _∙_}
 use mathlib.Core.Bool.{Bool, true, false, not, cond}
 use mathlib.Core.Logic.{⊎-elim}
 use mathlib.Core.List.{List, [], _∷_}
-use Prim.Native.Nat.{ℕ, _%_, _≤_, _<_}
+use Prim.Native.Nat.{ℕ, _+_, _/_, _%_, _≤_, _<_}
 use native.Mathlib.Omega.{arith}
-use borrow.Author.Tests.{leb-true, leb-false, ltb-false, lt-ltb, le-ltb, eq-eqb, ne-eqb, not-false}
+use borrow.Author.Tests.{le-leb, leb-true, leb-false, ltb-false, lt-ltb, le-ltb, eq-eqb, ne-eqb, not-false}
 use lib.Dec.{leb, ltb, eqb}
 use lib.ListN.{length}
 use types.Run.{OneOf}
@@ -18,10 +18,11 @@ use Rattle.kinds.specs.Answers.{Answer, done, damaged, bad-list, gap-too-wide, 
 use Rattle.rules.specs.Board.{Board, pending-most, confirmed-size, confirmed-most}
 use Rattle.rules.specs.Estimator.{block-connected}
 use Rattle.rules.specs.Records.{sound-table}
-use Rattle.rules.specs.Memory.{Lent, confirmed-capacity, sound-counts, sound-pending, sound-confirmed, sound, view}
+use Rattle.rules.specs.Memory.{Lent, confirmed-capacity, sound-counts, sound-pending, sound-confirmed, sound, view, state-of}
 use Rattle.rules.specs.Calls.{Outcome, outcome, refused, accepted, gap, widest-gap, ids-of, held-once-listed, block-call}
-use Rattle.rules.proofs.Records.{and-left, and-right}
-use Rattle.rules.proofs.Memory.{pending-table}
+use Rattle.rules.proofs.Records.{and-left, and-right, length-records, used-within}
+use Rattle.rules.proofs.Memory.{pending-table, state-of-view}
+use Rattle.rules.proofs.Room.{held-at-most}
 use Rattle.rules.proofs.Refusals.{DoneOrAsGiven, is-done, as-given, block-refused}
 
 -- ---- the tables of sound memory
@@ -39,6 +40,9 @@ module _ (k : Board) (s : State) (l : Lent) (p : sound k s l ≡ true) where
   pub recent-sound : sound-table confirmed-size confirmed-most (s .recent) (l .recent) ≡ true
   unfolding sound-confirmed
   recent-sound = tables .1
+
+  pub recent-within : s .recent ≤ confirmed-capacity (l .recent)
+  recent-within = used-within confirmed-size confirmed-most (s .recent) (l .recent) recent-sound
 
 -- ---- answers
 
@@ -59,6 +63,15 @@ module _ (k : Board) (a : Block) where
   -- how many confirmed records there will be once the list is in
   abbrev pub wanted : ℕ
   wanted = held-once-listed k (ids-of (a .ids)) (a .height .0) (view k s l)
+
+  -- the listings, and the records that are there
+  listings : length (ids-of (a .ids)) ≡ length (a .ids) / 32
+  unfolding ids-of
+  listings = length-records 32 (length (a .ids) / 32) (a .ids)
+
+  there : length (view k s l .recent) ≡ s .recent
+  unfolding state-of
+  there = ap (λ (t : State). t .recent) (state-of-view k s l)
 
   -- what the definition says
   abbrev pub says : Outcome Lent
@@ -86,3 +99,7 @@ module _ (k : Board) (a : Block) where
         pub answer-done : leb wanted (confirmed-capacity (l .recent)) ≡ true → done ≡ says .answer
         unfolding block-call
         answer-done h = sym (rw (p, eq-eqb (length (a .ids) % 32) 0 q, le-ltb widest-gap (gap (s .last) (a .height)) g, le-ltb (confirmed-capacity (l .recent)) wanted (leb-true wanted (confirmed-capacity (l .recent)) h)))
+
+        -- beside the records that are there, as many places as there are listings
+        pub answer-short : s .recent + length (a .ids) / 32 ≤ confirmed-capacity (l .recent) → done ≡ says .answer
+        answer-short h = answer-done (le-leb wanted (confirmed-capacity (l .recent)) (omega (arith, held-at-most k (ids-of (a .ids)) (a .height .0) (view k s l), listings, there)))

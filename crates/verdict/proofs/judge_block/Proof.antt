@@ -3,12 +3,17 @@ use mathlib.Core.Path.{_≡_, sym, _∙_}
 use mathlib.Core.Bool.{true}
 use Prim.Native.Nat.{_≤_}
 use native.Mathlib.Omega.{arith}
+use lib.Dec.{leb}
 use borrow.Author.Tests.{not-true, not-false}
 use denote.Ref.{now}
 use Rattle.rules.specs.Board.{Board, board-of}
-use Rattle.rules.specs.Memory.{lent, sound}
-use Rattle.rules.specs.Calls.{gap, widest-gap, pending-listings}
-use Rattle.verdict.proofs.Judging.{Block, pending-sound, recent-within, answer-damaged, answer-list, answer-gap, answer-full, answer-done}
+use Rattle.rules.specs.Memory.{lent, confirmed-capacity, sound}
+use Rattle.rules.specs.Calls.{gap, widest-gap}
+use Rattle.verdict.proofs.Judging.{Block, wanted, pending-sound, recent-sound, recent-within, answer-damaged, answer-list, answer-gap, answer-short, answer-full, answer-done}
+use Rattle.rules.proofs.Boards.{board-lawful}
+use Rattle.rules.proofs.Bytes.{are-bytes}
+use Rattle.rules.proofs.Sound.{view-well}
+use Rattle.room.proofs.Judging.{room-is}
 use borrow.Author.Needs.{needs}
 use Rattle.verdict.proofs.judge_block.Statement.{statement}
 use Rattle.verdict.proofs.judge_block.Tie as tie
@@ -54,27 +59,44 @@ sub-free c =
     let e = second (c .before) .before in
     omega (arith, c .capacity .ensures, recent-within (board (start e)) (given (start e) .state) (given (start e) .lent) (is-sound e))
 
-pending-listings-requires : tie.Need-pending-listings-requires
-pending-listings-requires c κs = let e = second (c .before) .before in pending-sound (board (start e)) (given (start e) .state) (given (start e) .lent) (is-sound e)
-
+-- a list that is no longer than the free places
 returns-4 : tie.Need-returns-4
-unfolding pending-listings
 returns-4 c =
     let n = c .before in
-    let g = n .before .before in
+    let g = n .before in
     let e = second g .before in
     let s = start e in
-    answer-full (board s) (given s) (is-sound e) (second g .if2 .left) (narrow g) (omega (arith, n .before .capacity .ensures, n .pending-listings .ensures, c .if4 .taken))
+    answer-short (board s) (given s) (is-sound e) (second g .if2 .left) (narrow g) (omega (arith, n .capacity .ensures, c .if4 .taken, recent-within (board s) (given s .state) (given s .lent) (is-sound e)))
+
+finds-room-requires : tie.Need-finds-room-requires
+finds-room-requires c κs =
+    let e = second (c .before .before) .before in
+    let s = start e in
+    (pending-sound (board s) (given s .state) (given s .lent) (is-sound e), recent-sound (board s) (given s .state) (given s .lent) (is-sound e))
+
+-- what it answers, of the definition's number
+found : (c : tie.After-finds-room) → let s = start (second (c .before .before .before) .before) in c .finds-room .result ≡ leb (wanted (board s) (given s)) (confirmed-capacity (given s .lent .recent))
+found c =
+    let e = second (c .before .before .before) .before in
+    let s = start e in
+    let known = e .before .before .before in
+    let well = view-well (board s) (board-lawful (s .args .on)) (given s .state) (given s .lent) (is-sound e)
+    (are-bytes (now (s .args .pending)) (λ i. known .before .shared-slice-known3 .given i .fits)) (are-bytes (now (s .args .recent)) (λ i. known .shared-slice-known4 .given i .fits)) in
+    room-is (board s) (given s .state) (given s .lent) (given s .ids) (given s .height) _ well (c .finds-room .ensures)
 
 returns-5 : tie.Need-returns-5
-unfolding pending-listings
 returns-5 c =
-    let n = c .before in
-    let g = n .before .before in
+    let g = c .before .before .before .before in
     let e = second g .before in
     let s = start e in
-    answer-done (board s) (given s) (is-sound e) (second g .if2 .left) (narrow g)
-    (omega (arith, n .before .capacity .ensures, n .pending-listings .ensures, c .if4 .left, recent-within (board s) (given s .state) (given s .lent) (is-sound e)))
+    answer-full (board s) (given s) (is-sound e) (second g .if2 .left) (narrow g) (sym (found (c .before)) ∙ not-true _ (c .if5 .taken))
+
+returns-6 : tie.Need-returns-6
+returns-6 c =
+    let g = c .before .before .before .before in
+    let e = second g .before in
+    let s = start e in
+    answer-done (board s) (given s) (is-sound e) (second g .if2 .left) (narrow g) (sym (found (c .before)) ∙ not-false _ (c .if5 .left))
 
 pub judge-block-spec : {M : Type 1} → statement M
 judge-block-spec =
@@ -87,6 +109,7 @@ judge-block-spec =
     returns-3
     (λ c κs. search needs)
     sub-free
-    pending-listings-requires
     returns-4
-    returns-5)
+    finds-room-requires
+    returns-5
+    returns-6)
