@@ -7,7 +7,8 @@ use lib.ListN.{length}
 use Rattle.rules.specs.Board.{board-of}
 use Rattle.rules.proofs.Boards.{board-lawful}
 use Rattle.rules.specs.Memory.{lent}
-use Rattle.confirms.proofs.Listing.{Going, going-none, going-more, going-all, room-for-one, listed-length}
+use Rattle.batch.proofs.Listing.{next-length}
+use Rattle.confirms.proofs.Listing.{Going, going-none, going-more, going-all, room-for-one}
 use Rattle.confirms.proofs.confirm_all.Statement.{statement}
 use Rattle.confirms.proofs.confirm_all.Tie as tie
 
@@ -27,7 +28,7 @@ confirm-requires c κs =
     let n = c .before .before .before .before .before in
     let g = n .before .loop in
     let a = n .before .before .before .before .before .before .before .args in
-    (g .inv .ready, (room-for-one (board-of (a .on)) (board-lawful (a .on)) _ _ _ _ (g .at) _ _ (g .inv) (omega (arith, n .loop-test .taken)) (omega (arith, n .before .before .before .before .before .before .before .good)), listed-length (now (a .ids)) (g .at) (omega (arith, n .loop-test .taken))))
+    (g .inv .ready, (room-for-one (board-of (a .on)) (board-lawful (a .on)) _ _ _ _ (g .at) _ _ (g .inv) (omega (arith, n .loop-test .taken)) (omega (arith, n .before .before .before .before .before .before .before .good)), next-length (now (a .ids)) (g .at) (omega (arith, n .loop-test .taken))))
 
 loop-again : tie.Need-loop-again Inv-loop μ-loop
 loop-again c =
