@@ -45,21 +45,21 @@ module _ (left : ℕ → ℕ) (used : ℕ) where
 -- ---- what is left, of those that pass a test
 
 module _ {A : Type 0} (p : A → Bool) (xs : List A) where
-  pub count-next : (i : ℕ) (d : A) → i < length xs → count p (drop i xs) ≡ bit (p (getD xs i d)) + count p (drop (i + 1) xs)
+  count-next : (i : ℕ) (d : A) → i < length xs → count p (drop i xs) ≡ bit (p (getD xs i d)) + count p (drop (i + 1) xs)
   unfolding count
   count-next i d h = rw (add-one, drop-cons xs i d h)
 
-  pub count-end : (i : ℕ) → length xs ≤ i → count p (drop i xs) ≡ 0
+  count-end : (i : ℕ) → length xs ≤ i → count p (drop i xs) ≡ 0
   unfolding count
   count-end i h = rw (drop-of-length-le xs {i = i} h)
 
   -- and are marked
-  pub marked-next : (ms : List ℕ) (i : ℕ) (d : A) → i < length ms → i < length xs
+  marked-next : (ms : List ℕ) (i : ℕ) (d : A) → i < length ms → i < length xs
       → marked-count p (drop i ms) (drop i xs) ≡ bit (eqb (getD ms i 0) 1 && p (getD xs i d)) + marked-count p (drop (i + 1) ms) (drop (i + 1) xs)
   unfolding marked-count
   marked-next ms i d h k = rw (add-one, drop-cons ms i 0 h, drop-cons xs i d k)
 
-  pub marked-end : (ms : List ℕ) (i : ℕ) → length xs ≤ i → marked-count p (drop i ms) (drop i xs) ≡ 0
+  marked-end : (ms : List ℕ) (i : ℕ) → length xs ≤ i → marked-count p (drop i ms) (drop i xs) ≡ 0
   unfolding marked-count
   marked-end ms i h = rw (drop-of-length-le xs {i = i} h)
 

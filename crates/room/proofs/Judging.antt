@@ -8,7 +8,7 @@ use native.Mathlib.Nat.{not-suc-le-zero, le-of-suc-le-suc}
 use native.Mathlib.Omega.{arith}
 use lib.Dec.{leb}
 use borrow.Author.Tests.{le-leb}
-use lib.ListN.{length, take, replicate}
+use lib.ListN.{length, take, replicate, length-replicate}
 use Rattle.kinds.specs.declared.Height.{Height}
 use Rattle.kinds.specs.declared.Last.{Last}
 use Rattle.kinds.specs.declared.State.{State}
@@ -29,18 +29,21 @@ use Rattle.room.proofs.Counting.{many, many-pending, marked-is}
 
 -- ---- the marks
 
-no-marks : (n m : ℕ) → n ≤ m → take {A = ℕ} n (replicate m 0) ≡ replicate n 0
-no-marks zero m h = refl
-no-marks (suc n) zero h = absurd (not-suc-le-zero h)
-no-marks (suc n) (suc m) h = ap (λ (l : List ℕ). 0 ∷ l) (no-marks n m (le-of-suc-le-suc h))
+take-zeros : (n m : ℕ) → n ≤ m → take {A = ℕ} n (replicate m 0) ≡ replicate n 0
+take-zeros zero m h = refl
+take-zeros (suc n) zero h = absurd (not-suc-le-zero h)
+take-zeros (suc n) (suc m) h = ap (λ (l : List ℕ). 0 ∷ l) (take-zeros n m (le-of-suc-le-suc h))
 
--- what marking asks of a sound table, and of as many marks as it may have records
-pub markable : (n m used : ℕ) (xs : List ℕ) → n ≡ m → pending-size ≤ n → sound-table m pending-most used xs ≡ true
-    → ((32 ≤ n) × (used * n ≤ length xs)) × ((rising (map id-of (records n used xs)) ≡ true) × ((used ≤ pending-most) × (take {A = ℕ} used (replicate pending-most 0) ≡ replicate used 0)))
-markable n m used xs q h s =
+-- there is one for each record of a sound table
+pub marks-enough : (m used : ℕ) (xs ms : List ℕ) → sound-table m pending-most used xs ≡ true → ms ≡ replicate pending-most 0 → used ≤ length ms
+marks-enough m used xs ms s e = omega (arith, sound-told m pending-most used xs s .fit, ap length e ∙ length-replicate {A = ℕ} pending-most 0)
+
+-- what marking asks; the code has a record's size as a number n that it has asked for
+pub markable : (n m used : ℕ) (xs ms : List ℕ) → n ≡ m → pending-size ≤ n → sound-table m pending-most used xs ≡ true → ms ≡ replicate pending-most 0
+    → ((32 ≤ n) × (used * n ≤ length xs)) × ((rising (map id-of (records n used xs)) ≡ true) × ((used ≤ length ms) × (take used ms ≡ replicate used 0)))
+markable n m used xs ms q h s e =
     let g = sound-told n pending-most used xs (ap (λ (x : ℕ). sound-table x pending-most used xs) q ∙ s) in
-    let few : used ≤ pending-most = omega (arith, g .fit) in
-    ((omega arith, sound-room n pending-most used xs g), (g .rise, (few, no-marks used pending-most few)))
+    ((omega arith, sound-room n pending-most used xs g), (g .rise, (marks-enough m used xs ms s e, ap (take used) e ∙ take-zeros used pending-most (omega (arith, g .fit)))))
 
 -- ---- what is needed
 

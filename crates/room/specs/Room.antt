@@ -16,12 +16,12 @@ use Rattle.batch.specs.Needed.{skips}
 unfoldable pub last-skipped : Last → ℕ → Last
 last-skipped last B = cond (skips last B) (At (record { 0 = B - 1 })) Nothing
 
--- the least height of a confirmed record that stays through it
+-- the least height of a confirmed record that stays through the skipped heights, by the last of them
 unfoldable pub least-height : Last → ℕ
 least-height Nothing = 0
 least-height (At h) = h .0 - prune-window
 
--- a pending record lasts through it
+-- a pending record lasts through them
 unfoldable pub lasts-through : Board → Last → Pending → Bool
 lasts-through k Nothing r = true
 lasts-through k (At h) r = ltb (max (r .through) (outwaited k (h .0) r)) columns
@@ -34,8 +34,8 @@ held-above least cs i = any (λ c. same (c .id) i && leb least (c .height)) cs
 unfoldable pub comes-new : Board → Last → List Confirmed → Pending → Bool
 comes-new k skipped cs r = lasts-through k skipped r && not (held-above (least-height skipped) cs (r .id))
 
--- how many of the records that are marked pass a test
 module _ {A : Type 0} where
+  -- how many of the records that are marked pass a test
   unfoldable pub marked-count : (A → Bool) → List ℕ → List A → ℕ
   marked-count p ms [] = 0
   marked-count p [] (r ∷ rs) = 0

@@ -17,11 +17,19 @@ use skipped::least_height;
 ghost use mathlib.Core.Path.{_≡_};
 ghost use mathlib.Core.Bool.{true};
 ghost use lib.Dec.{leb};
+ghost use lib.ListN.{replicate};
 ghost use Rattle.rules.specs.Records.{sound-table};
 ghost use Rattle.rules.specs.Board.{board-of, pending-most, confirmed-size, confirmed-most};
 ghost use Rattle.rules.specs.Memory.{pending-records, confirmed-records, confirmed-capacity};
 ghost use Rattle.rules.specs.Calls.{ids-of};
 ghost use Rattle.batch.specs.Needed.{needed};
+
+// A mark for each pending record that there may be: none is marked.
+fn no_marks() -> [u8; MAX_PENDING_ENTRIES]
+    ensures { λ r. ⌜ r ≡ replicate pending-most 0 ⌝ }
+{
+    [0u8; MAX_PENDING_ENTRIES]
+}
 
 // How many confirmed records there will be once the list is in.
 fn needed(
@@ -42,14 +50,15 @@ fn needed(
     let used = state.pending;
     let kept = state.recent;
     let size = boards::record_size(on);
-    let mut marks = [0u8; MAX_PENDING_ENTRIES];
+    let mut marks = no_marks();
     mark_listed(pending, size, used, ids, &mut marks);
     let skipped = last_skipped(last, height);
     let old = count_staying(recent, kept, least_height(skipped));
     old + count_new(pending, used, recent, kept, &marks, skipped, on)
 }
 
-// Whether there is room for all confirmed records that there will be once the list is in. (There is where each pending record finds a free place.)
+// Whether there is room for all confirmed records that there will be once the list is in. Where every pending record would find a free place, nothing more is
+// looked at.
 pub fn finds_room(
     state: State,
     pending: &[u8],

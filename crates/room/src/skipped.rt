@@ -30,7 +30,7 @@ pub(crate) fn last_skipped(last: Last, h: Height) -> Last
     Last::Nothing
 }
 
-// The least height of a confirmed record that stays through it.
+// The least height of a confirmed record that stays through the skipped heights, by the last of them.
 pub(crate) fn least_height(skipped: Last) -> Height
     ensures { λ r. ⌜ r .0 ≡ least-height skipped ⌝ }
 {
@@ -45,7 +45,7 @@ pub(crate) fn least_height(skipped: Last) -> Height
     Height(n - far)
 }
 
-// Whether pending record number `i` lasts through it: some column is left that the record has neither been resolved for nor outwaited.
+// Whether pending record number `i` lasts through the skipped heights: some column is left that it is not resolved through and has not outwaited.
 pub(crate) fn lasts(pending: &[u8], used: usize, i: usize, skipped: Last, on: Horizon) -> bool
     requires { ⌜ (i < used) × (used * board-of on .table .size ≤ length (now pending)) ⌝ }
     ensures { λ r. ⌜ r ≡ lasts-through (board-of on) skipped (board-of on .table .read (getD (records (board-of on .table .size) used (now (pending .entry))) i [])) ⌝ }

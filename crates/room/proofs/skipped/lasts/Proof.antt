@@ -48,12 +48,12 @@ reach-is n =
 returns-2 : tie.Need-returns-2
 returns-2 c =
     let n = c .before .before in
-    resolved-all _ _ (rec n) _ _ (n .before .before .before .before .before .before .skipped .given .1) (through-is n) (reach-is n) (c .if1 .taken)
+    resolved-all _ (board-of (start n .args .on)) (rec n) _ _ (n .before .before .before .before .before .before .skipped .given .1) (through-is n) (reach-is n) (c .if1 .taken)
 
 returns-3 : tie.Need-returns-3
 returns-3 c =
     let n = c .before .before in
-    some-left _ _ (rec n) _ _ (n .before .before .before .before .before .before .skipped .given .1) (through-is n) (reach-is n) (c .if1 .left)
+    some-left _ (board-of (start n .args .on)) (rec n) _ _ (n .before .before .before .before .before .before .skipped .given .1) (through-is n) (reach-is n) (c .if1 .left)
 
 pub lasts-spec : {M : Type 1} → statement M
 lasts-spec = tie.close (tie.spec (λ c. search needs) (λ c. search needs) returns (λ c κs. search needs) (λ c κs. search needs) (λ c. search needs) pending-at-requires (λ c κs. search needs) returns-2 returns-3)
