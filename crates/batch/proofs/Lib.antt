@@ -2,8 +2,8 @@
 
 -- a list of ids in bytes
 pub mod Listing
--- how many of a list pass a test
-pub mod Counting
+-- records whose ids rise
+pub mod Rising
 -- of all skipped heights the last decides
 pub mod Skipped
 -- how many confirmed records there will be

@@ -19,7 +19,8 @@ use Rattle.rules.proofs.Placing.{any-dropped, any-ordered}
 use Rattle.rules.proofs.Room.{length-keep, length-insert}
 use Rattle.rules.proofs.Well.{Well, well-skip}
 use Rattle.batch.specs.Needed.{listed, stays, lasts, still-held, adds-one, needed}
-use Rattle.batch.proofs.Counting.{count-ext, count-split, count-keep, length-kept, length-left, count-none, any-keep, count-one}
+use Rattle.lists.proofs.Counting.{count-ext, count-split, count-keep, count-false, length-kept, length-left, any-keep}
+use Rattle.batch.proofs.Rising.{count-one}
 use Rattle.batch.proofs.Skipped.{skipped-recent, skipped-pending}
 
 -- ---- one listed id
@@ -137,7 +138,7 @@ module _ (i : Id) (ids : List Id) (s t : Estimator) (u : Up (λ r. r .id) (s .pe
 
       its : (b : Bool) → count (λ r. b && same (r .id) i) (s .pending) ≡ bit (b && any (λ r. same (r .id) i) (s .pending))
       its true = count-one (λ r. r .id) i u
-      its false = count-none (s .pending)
+      its false = count-false (s .pending)
 
       each : (r : Pending) (b : Bool) → (not b && ((b || listed ids (r .id)) && not (confirmed-in (s .recent) (r .id)))) ≡ (not b && is-new (s .recent) ids r)
       each r true = refl
@@ -150,7 +151,7 @@ module _ (i : Id) (ids : List Id) (s t : Estimator) (u : Up (λ r. r .id) (s .pe
 length-all : (k : Board) (B : ℕ) (ids : List Id) (s : Estimator) → Up (λ r. r .id) (s .pending) → Up (λ c. c .id) (s .recent)
     → length (confirm-all k B ids s .recent) ≡ length (s .recent) + count (is-new (s .recent) ids) (s .pending)
 unfolding confirm-all listed any
-length-all k B [] s u v = omega (arith, count-none (s .pending))
+length-all k B [] s u v = omega (arith, count-false (s .pending))
 length-all k B (i ∷ ids) s u v =
     let c = confirming k B i s v in
     let t = confirm k B i s in

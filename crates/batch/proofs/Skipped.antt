@@ -17,7 +17,7 @@ use Rattle.rules.specs.Counts.{columns}
 use Rattle.rules.specs.Board.{Board, Pending, Confirmed}
 use Rattle.rules.specs.Estimator.{Estimator, outwaited, moved, prune-window, advance-height, advance-heights, skip-heights}
 use Rattle.batch.specs.Needed.{skips, stays, lasts}
-use Rattle.batch.proofs.Counting.{count-ext, count-keep, count-map, keep-implied, keep-all}
+use Rattle.lists.proofs.Counting.{count-ext, count-keep, count-map, keep-implied, keep-all}
 
 -- ---- the confirmed records
 

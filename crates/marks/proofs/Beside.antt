@@ -10,7 +10,7 @@ use Rattle.rules.specs.Lists.{bit, count}
 use Rattle.rules.specs.Ids.{Id, same}
 use Rattle.rules.proofs.All.{All, none, more}
 use Rattle.rules.proofs.Ids.{Up, end, step, same-refl, below-apart}
-use Rattle.batch.proofs.Counting.{none-above}
+use Rattle.batch.proofs.Rising.{none-above}
 use Rattle.marks.specs.Marks.{beside}
 
 -- what holds of each holds of number n

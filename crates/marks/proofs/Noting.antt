@@ -20,7 +20,7 @@ use Rattle.ids.proofs.Search.{at-told}
 use Rattle.table.proofs.View.{gap-any}
 use Rattle.batch.specs.Needed.{listed}
 use Rattle.batch.proofs.Listing.{next-id, ids-more, ids-none}
-use Rattle.batch.proofs.Counting.{count-one}
+use Rattle.batch.proofs.Rising.{count-one}
 use Rattle.marks.specs.Marks.{beside, noted}
 use Rattle.marks.proofs.Beside.{beside-none, beside-miss, beside-hit}
 

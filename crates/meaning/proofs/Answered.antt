@@ -26,7 +26,8 @@ use Rattle.floats.specs.Factor.{Factor}
 use Rattle.meaning.specs.Runs.{Log, last-of, Rising, singly, Call, enter, leave, connect, Held, outcome-of, calls}
 use Rattle.meaning.specs.Fates.{admissions, pends, Meant}
 use Rattle.meaning.specs.Answered.{run, waiting, too-far, foretold, Answered, AnswerPromise}
-use Rattle.meaning.proofs.Counting.{bool-ext, any-count, count-ext, count-length}
+use Rattle.lists.proofs.Counting.{count-ext, count-length}
+use Rattle.meaning.proofs.Counting.{bool-ext, any-count}
 use Rattle.meaning.proofs.Living.{and-true}
 use Rattle.rules.proofs.Memory.{pending-length, view-of-lay}
 use Rattle.rules.proofs.Sound.{well-fits}

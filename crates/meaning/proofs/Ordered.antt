@@ -15,7 +15,7 @@ use Rattle.floats.proofs.Unsigned.{le-trans, mul-mono}
 use Rattle.floats.proofs.Tame.{Tame, nought-tame, one-more-tame, decay-tame, one-more-grows, one-more-mono}
 use Rattle.meaning.specs.Runs.{arrival, removal, block, Log, begin, _▸_}
 use Rattle.meaning.specs.Fates.{Admission, admissions, Fate, undecided, withdrawn, counted, fate-of, in-resolved, in-confirmed, of-kind, counted-at, counts-in, tally, ones, stored, count-of}
-use Rattle.meaning.proofs.Counting.{count-le}
+use Rattle.lists.proofs.Counting.{count-le}
 
 -- two numbers of at most n times 2 ^ 53, the first not above the second
 pub record Ordered (n : ℕ) (x y : Float) : Type 0 where

@@ -11,7 +11,8 @@ use Rattle.rules.specs.Ladder.{bucket-index}
 use Rattle.rules.specs.Board.{Board}
 use Rattle.meaning.specs.Runs.{Event, arrival, removal, block, Log, begin, _▸_}
 use Rattle.meaning.specs.Fates.{Admission, later, admissions, fate, fate-of, waits, Kind, counted-at, counts-in, tally, stored}
-use Rattle.meaning.proofs.Counting.{all-then, count-all, count-ext, count-map}
+use Rattle.lists.proofs.Counting.{count-all, count-ext, count-map}
+use Rattle.meaning.proofs.Counting.{all-then}
 use Rattle.meaning.proofs.Living.{Under, all-under, and-false, Elsewhere, counts, after-other, at-block}
 
 -- the admissions after one more event

@@ -16,7 +16,7 @@ use Rattle.rules.specs.Records.{records, id-of}
 use Rattle.rules.specs.Board.{Board, Pending, Confirmed, confirmed-size, confirmed-of}
 use Rattle.rules.specs.Memory.{pending-records, confirmed-records}
 use Rattle.rules.proofs.Records.{length-records}
-use Rattle.batch.proofs.Counting.{length-kept, keep-all}
+use Rattle.lists.proofs.Counting.{length-kept, keep-all}
 use Rattle.marks.specs.Marks.{beside}
 use Rattle.room.specs.Room.{marked-count}
 

@@ -1,29 +1,22 @@
 -- A block judged, over plain lists: the answers of the code, test by test, are the definition's. Assumes nothing.
-use mathlib.Core.Path.{_≡_, refl, sym, ap, _∙_}
-use mathlib.Core.Bool.{Bool, true, false, not, cond}
-use mathlib.Core.Logic.{⊎-elim}
-use mathlib.Core.List.{List, [], _∷_}
+use mathlib.Core.Path.{_≡_, sym, ap}
+use mathlib.Core.Bool.{true, false}
+use mathlib.Core.List.{List}
 use Prim.Native.Nat.{ℕ, _+_, _/_, _%_, _≤_, _<_}
 use native.Mathlib.Omega.{arith}
-use borrow.Author.Tests.{le-leb, leb-true, leb-false, ltb-false, lt-ltb, le-ltb, eq-eqb, ne-eqb, not-false}
-use lib.Dec.{leb, ltb, eqb}
+use borrow.Author.Tests.{le-leb, leb-true, leb-false, lt-ltb, le-ltb, eq-eqb, ne-eqb}
+use lib.Dec.{leb}
 use lib.ListN.{length}
-use types.Run.{OneOf}
-use denote.Enum.Declared.{tagOf}
-use Rattle.kinds.proofs.BlockAnswer.{the-type}
 use Rattle.kinds.specs.declared.Height.{Height}
 use Rattle.kinds.specs.declared.State.{State}
-use Rattle.kinds.specs.declared.BlockAnswer.{BlockAnswer}
-use Rattle.kinds.specs.Answers.{Answer, done, damaged, bad-list, gap-too-wide, confirmed-full, block-answer}
+use Rattle.kinds.specs.Answers.{done, damaged, bad-list, gap-too-wide, confirmed-full}
 use Rattle.rules.specs.Board.{Board, pending-most, confirmed-size, confirmed-most}
-use Rattle.rules.specs.Estimator.{block-connected}
 use Rattle.rules.specs.Records.{sound-table}
 use Rattle.rules.specs.Memory.{Lent, confirmed-capacity, sound-counts, sound-pending, sound-confirmed, sound, view, state-of}
-use Rattle.rules.specs.Calls.{Outcome, outcome, refused, accepted, gap, widest-gap, ids-of, held-once-listed, block-call}
+use Rattle.rules.specs.Calls.{Outcome, gap, widest-gap, ids-of, held-once-listed, block-call}
 use Rattle.rules.proofs.Records.{and-left, and-right, length-records, used-within}
 use Rattle.rules.proofs.Memory.{pending-table, state-of-view}
 use Rattle.rules.proofs.Room.{held-at-most}
-use Rattle.rules.proofs.Refusals.{DoneOrAsGiven, is-done, as-given, block-refused}
 
 -- ---- the tables of sound memory
 
