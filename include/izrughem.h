@@ -144,7 +144,7 @@ uint32_t izr_tx_left(uint64_t *state, size_t state_len, uint8_t *pending, size_t
  *                        once the list is in. An id that is listed twice counts once; one that is not pending, that still has a record after the skipped
  *                        heights, or that is let go of in them, needs no further room. The block's own height makes none: it comes after the list. Lend a
  *                        longer table, with zeros behind the old bytes, and call again: with a place for each used record, and one for each id that is both
- *                        listed and pending, it is long enough
+ *                        listed and pending, it is long enough, up to IZR_MOST_RECENT places
  */
 uint32_t izr_block_connected(uint64_t *state, size_t state_len, double *confirmed, size_t confirmed_len, double *resolved, size_t resolved_len,
                              uint8_t *pending, size_t pending_len, uint8_t *recent, size_t recent_len, const uint8_t *ids, size_t ids_len,

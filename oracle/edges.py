@@ -12,14 +12,16 @@ FRESH_FILE = "42 52 53 45 46 45 45 53 01 00 00 00 00 8E 00 00 00 E8 03"
 FRESH_FILES = {NARROW: FRESH_FILE, WIDE: "42 52 53 45 46 45 45 53 03 00 00 00 06 00 00 00 00 8E 00 00 00 E8 03"}
 TOP = 2**32 - 1
 MOST = {NARROW: ((10_000, 440_044), (20_002, 720_100)), WIDE: ((1_002, 44_100), (2_002, 72_100))}  # records that a script can lend for, and their bytes
+ONE_PLACE = "lend 87 71 3550 3550"  # for a record of each kind, and some bytes more
+LATE, LATE_CC = pending_record("aa", 33, TOP, 0), pending_record("cc", 33, TOP, 0)  # these do not expire
+KEPT = [recent_record("bb", TOP)]  # this is not pruned
 
 
 def joined(lines):
     return "\n".join(lines)
 
 
-def decayed(board, times):
-    count = 1.0
+def decayed(board, times, count=1.0):
     for _ in range(times):
         count *= board.decay
     return count
@@ -396,17 +398,15 @@ def no_room(*blocks):
     return joined(["sum -> any", *(f"block {block} -> 7" for block in blocks), "sum -> same"])
 
 
-def room_cases(board):
-    """Answer 7 (request L5): exactly where the confirmed table, after the skipped heights have pruned it and once the list is in, would hold more than its capacity."""
-    once, width, gone = board.decay, board.width, 100 + board.life
-    aa, bb = pending_record("aa", 33, 100, 0), pending_record("bb", 33, 100, 0)
-    late, late_cc = pending_record("aa", 33, TOP, 0), pending_record("cc", 33, TOP, 0)  # these do not expire
-    kept = [recent_record("bb", TOP)]  # and this is not pruned
+def resolved_by(board, height, columns):
+    """The resolved counts that an id at 5,000, entered at 100, has left at that height for these columns: one each, decayed since its time was up."""
+    return [(33, column, decayed(board, height + 1 - 100 - board.width * column)) for column in columns]
 
-    def resolved_at(columns, end):
-        """Resolved counts of an id entered at 100, each decayed from the height on at which the column's time is up."""
-        return [(33, column, decayed(board, end + 1 - 100 - width * column)) for column in columns]
 
+def listing_room_cases(board):
+    """Answer 7 (request L5), exactly where the confirmed table, after the skipped heights have pruned it and once the list is in, would hold more than its capacity.
+    Here what the list needs: repeats, ids that are not pending, ids that have a record."""
+    aa, bb, once = pending_record("aa", 33, 100, 0), pending_record("bb", 33, 100, 0), board.decay
     yield "room: an id listed twice counts once, and one that is not pending needs none", f"""
         {small("-", [aa], [], 0)}
         {no_room("101 aa", "101 aa aa aa")}
@@ -414,7 +414,7 @@ def room_cases(board):
         {small("-", [aa], [], 1)}
         block 101 aa aa aa -> 0
         sum -> any
-        {laid(101, [], [recent_record("aa", 101)], all_targets(33, once), all_targets(33, once), lend="lend 87 71 3550 3550")}
+        {laid(101, [], [recent_record("aa", 101)], all_targets(33, once), all_targets(33, once), lend=ONE_PLACE)}
         {small("-", [aa, bb], [], 1)}
         {no_room("101 aa bb", "101 aa bb aa", "101 bb bb aa aa")}
         block 101 bb cc bb -> 0
@@ -427,7 +427,7 @@ def room_cases(board):
         block 101 cc bb dd cc -> 0
         sum -> any"""
 
-    through = [column for column in range(1, 26) if width * column <= 2]
+    outwaited = [column for column in range(1, 26) if board.width * column <= 2]
     yield "room: an id that still has a record needs no further room", f"""
         {small(100, [aa], [recent_record("aa", 99)], 1)}
         block 103 aa aa -> 0
@@ -435,7 +435,7 @@ def room_cases(board):
         {small(100, [aa], [recent_record("aa", 103)], 1)}
         block 103 aa aa -> 0
         sum -> any
-        {laid(103, [], [recent_record("aa", 103)], resolved=resolved_at(through, 103), lend="lend 87 71 3550 3550")}
+        {laid(103, [], [recent_record("aa", 103)], resolved=resolved_by(board, 103, outwaited), lend=ONE_PLACE)}
         {small(100, [aa], [recent_record("bb", 99)], 1)}
         {no_room("101 aa", "103 aa", "103 bb aa", "100 aa", "99 aa")}
         {small(100, [aa], [recent_record("aa", 74)], 1)}
@@ -450,33 +450,37 @@ def room_cases(board):
         sum -> any"""
 
     yield "room: an id whose record is pruned in the skipped heights needs a place again", f"""
-        {small(101, [late, late_cc], [recent_record("aa", 100), recent_record("bb", 101)], 2)}
+        {small(101, [LATE, LATE_CC], [recent_record("aa", 100), recent_record("bb", 101)], 2)}
         {no_room("126 aa cc", "127 aa cc", "127 cc aa aa")}
         block 127 aa -> 0
         sum -> any
-        {small(101, [late, late_cc], [recent_record("aa", 100), recent_record("bb", 101)], 3)}
+        {small(101, [LATE, LATE_CC], [recent_record("aa", 100), recent_record("bb", 101)], 3)}
         block 127 aa cc -> 0
         sum -> any
-        {small(101, [late], [recent_record("aa", 100)], 1)}
+        {small(101, [LATE], [recent_record("aa", 100)], 1)}
         block 127 aa aa -> 0
         sum -> any"""
 
-    counted = {"confirmed": all_targets(33, once), "resolved": all_targets(33, once), "lend": "lend 87 71 3550 3550"}
+
+def skipping_room_cases(board):
+    """Answer 7: what the skipped heights leave. Records are pruned and ids expire in them, and not without them."""
+    once, width, gone = board.decay, board.width, 100 + board.life
+    counted = {"confirmed": all_targets(33, once), "resolved": all_targets(33, once), "lend": ONE_PLACE}
     for last in 101, 125:
         yield f"room: the skipped heights after {last} make it after 25 blocks, and the block's own height makes none", f"""
-            {small(last, [late], [recent_record("bb", 100)], 1)}
+            {small(last, [LATE], [recent_record("bb", 100)], 1)}
             {no_room("126 aa", f"{last + 1} aa")}
             block 127 aa -> 0
             sum -> any
             {laid(127, [], [recent_record("aa", 127)], **counted)}"""
 
     yield "room: without skipped heights nothing is pruned", f"""
-        {small(200, [late], [recent_record("bb", 100)], 1)}
+        {small(200, [LATE], [recent_record("bb", 100)], 1)}
         {no_room("201 aa", "200 aa", "199 aa", "150 aa", "127 aa", "0 aa")}
         block 202 aa -> 0
         sum -> any
         {laid(202, [], [recent_record("aa", 202)], **counted)}
-        {small("-", [late], [recent_record("bb", 100)], 1)}
+        {small("-", [LATE], [recent_record("bb", 100)], 1)}
         {no_room("202 aa", "127 aa", "0 aa", f"{TOP} aa")}
         block 202 -> 0
         block 202 aa -> 0
@@ -484,32 +488,36 @@ def room_cases(board):
 
     before = [height for height in (102, 125, 126, 127, gone - 1, gone) if height <= gone]
     yield "room: an id that expires in the skipped heights needs none", f"""
-        {small(101, [pending_record("aa", 33, 100, 1 // width)], kept, 1)}
+        {small(101, [pending_record("aa", 33, 100, 1 // width)], KEPT, 1)}
         {no_room(*(f"{height} aa" for height in before))}
         block {gone + 1} aa aa -> 0
         sum -> any
-        {laid(gone + 1, [], kept, resolved=resolved_at(range(1 // width + 1, 26), gone + 1), lend="lend 87 71 3550 3550")}
-        {small(gone - 1, [pending_record("aa", 33, 100, 24)], kept, 1)}
+        {laid(gone + 1, [], KEPT, resolved=resolved_by(board, gone + 1, range(1 // width + 1, 26)), lend=ONE_PLACE)}
+        {small(gone - 1, [pending_record("aa", 33, 100, 24)], KEPT, 1)}
         {no_room(f"{gone} aa")}
         block {gone + 1} aa -> 0
         sum -> any"""
 
     outlived = [pending_record("aa", 33, 100, 25)]
     yield "room: resolved-through 25 goes at the next height, if that is skipped", f"""
-        {small(100, outlived, kept, 1)}
+        {small(100, outlived, KEPT, 1)}
         {no_room("101 aa", "100 aa", "99 aa")}
         block 102 aa -> 0
         sum -> any
-        {laid(102, [], kept, lend="lend 87 71 3550 3550")}
-        {small("-", outlived, kept, 1)}
+        {laid(102, [], KEPT, lend=ONE_PLACE)}
+        {small("-", outlived, KEPT, 1)}
         {no_room("102 aa")}
-        {small(100, outlived, kept, 2)}
+        {small(100, outlived, KEPT, 2)}
         block 101 aa -> 0
         sum -> any
-        {laid(101, [], [recent_record("aa", 101), *kept], all_targets(33, once), lend="lend 87 107 3550 3550")}"""
+        {laid(101, [], [recent_record("aa", 101), *KEPT], all_targets(33, once), lend="lend 87 107 3550 3550")}"""
 
+
+def whole_room_cases(board):
+    """Answer 7: its place in the order, all of it in one block, and request L5's small node."""
+    once, width = board.decay, board.width
     yield "room: 7 after 5 and 6", f"""
-        {small(100, [late], kept, 1)}
+        {small(100, [LATE], KEPT, 1)}
         sum -> any
         blockraw 101 {name("aa").hex()}00 -> 5
         blockraw 101 00{name("aa").hex()} -> 5
@@ -520,14 +528,14 @@ def room_cases(board):
         count confirmed 0 nan
         block 101 aa -> 1
         blockraw 4197 {name("aa").hex()}00 -> 1
-        {small(100, [late], kept, 2)}
+        {small(100, [LATE], KEPT, 2)}
         block 4197 aa -> 6
         block 4196 aa -> 0
         sum -> any"""
 
     mixed = [pending_record("0a", 0, 100, 0), *(pending_record(f"0{digit}", 0, TOP, 0) for digit in "bcdef"), pending_record("10", 0, 100, 25)]
     heights = [recent_record(*record) for record in (("0b", 100), ("0c", 110), ("11", 100), ("12", 101), ("13", TOP), ("14", 126))]
-    held = 7 if gone <= 126 else 8  # 0c, 12, 13 and 14 stay; 0b, 0d and 0e, and 0a where it lasts, need a place each; 0f is not listed, 10 expires
+    held = 7 if board.life == 25 else 8  # 0c, 12, 13 and 14 stay; 0b, 0d and 0e, and 0a where it lasts, need a place each; 0f is not listed, 10 expires
     listed = "0a 0b 0c 0d 0e 0d 10 11 0b 77"
     yield "room: all of it in one block", f"""
         {small(101, mixed, heights, held - 1)}
@@ -539,14 +547,14 @@ def room_cases(board):
 
     outwaited = [column for column in range(1, 26) if width * column < 8]
     waited = [(33, column, decayed(board, 9 - width * column)) for column in outwaited]
-    first = [(bucket, target, decayed(board, 28)) for bucket in range(3) for target in range(1, 26)]
+    first = all_targets(0, decayed(board, 28, 3.0))
     within = all_targets(33, once, first=len(outwaited) + 1)
     yield "a small node whose full table the gap clears", f"""
         lend 176 108 3550 3550
         start -> 0
         enter aa 1000 100 -> 0
-        enter bb 1050 100 -> 0
-        enter cc 1102 100 -> 0
+        enter bb 1000 100 -> 0
+        enter cc 1000 100 -> 0
         block 101 aa bb cc -> 0
         enter dd 5000 120 -> 0
         {no_room("102 dd", "121 dd", "127 dd", "127 aa dd dd")}
@@ -635,9 +643,10 @@ def zero_row_cases(board):
 
 def scripts(board=NARROW):
     """Each case's title, the bytes of its script, and for each printed line the answer, `any`, or the number of the line that it repeats."""
-    makers = rate_cases, floor_cases, worked_cases, expiry_cases, gap_cases, estimate_cases, file_cases, record_cases, count_cases, capacity_cases, room_cases, large_cases
+    makers = rate_cases, floor_cases, worked_cases, expiry_cases, gap_cases, estimate_cases, file_cases, record_cases, count_cases, capacity_cases
+    room = listing_room_cases, skipping_room_cases, whole_room_cases
     first = "" if board is NARROW else f"board {board.word}\n"
-    for maker in (*makers, zero_row_cases):
+    for maker in (*makers, *room, large_cases, zero_row_cases):
         for title, text in maker(board):
             yield title, *script(first + text.strip())
 

@@ -445,7 +445,7 @@ SHARES = {
     exact_lengths: 30,
     odd_lengths: 50,
     crowded: 60,
-    about_room: 60,
+    about_room: 100,
     wide_gaps: 4,
     damaged_memory: 60,
     rates: 14,

@@ -18,8 +18,8 @@ impl FeeEstimator {
         self.pending.contains_key(id)
     }
 
-    /// How many confirmed records a block holds after the skipped heights have pruned them and once all confirmations of its list are in: by the Rust's own
-    /// steps, on a copy.
+    /// How many confirmed records there are after the skipped heights have pruned them and once all confirmations of the list are in: by the Rust's own steps,
+    /// on a copy.
     pub fn held_once_listed(&self, confirmed_txids: &[Txid], block_height: u32) -> usize {
         let mut copy = Self::from_history_bytes(&self.to_history_bytes()).expect("the Rust reads what it wrote");
         if let Some(last_height) = copy.last_decayed_height {
@@ -27,7 +27,7 @@ impl FeeEstimator {
                 copy.advance_height(skipped_height);
             }
         }
-        // No height is above this one, so that the block confirms its list and does not advance.
+        // No block is above this height: the call confirms the list, and does not advance.
         copy.last_decayed_height = Some(u32::MAX);
         copy.block_connected(confirmed_txids, block_height);
         copy.confirmed_at.len()
