@@ -1,4 +1,4 @@
-// Records by their id: whether there is one, and what comes and goes.
+// Records by their id: what comes and goes, and which height one holds.
 use ids::Found;
 use ids::find;
 use kinds::CONFIRMED_SIZE;
@@ -15,21 +15,8 @@ ghost use Prim.Native.Nat.{_≤_};
 ghost use lib.ListN.{length};
 ghost use Rattle.rules.specs.Records.{sound-table};
 ghost use Rattle.rules.specs.Board.{board-of, pending-most, confirmed-size, confirmed-most};
-ghost use Rattle.rules.specs.Estimator.{is-pending, without, holds, become};
+ghost use Rattle.rules.specs.Estimator.{without, holds, become};
 ghost use Rattle.rules.specs.Memory.{pending-records, lay-pending, confirmed-records, confirmed-capacity, lay-confirmed};
-
-// Whether there is a pending record of the id.
-pub fn is_pending(pending: &[u8], used: usize, id: &[u8], on: Horizon) -> bool
-    requires { ⌜ sound-table (board-of on .table .size) pending-most used (now pending) ≡ true ⌝ }
-    requires { ⌜ length (now id) ≡ 32 ⌝ }
-    ensures { λ r. ⌜ r ≡ is-pending (now (id .entry)) (pending-records (board-of on) used (now (pending .entry))) ⌝ }
-{
-    let size = boards::record_size(on);
-    match find(pending, size, used, id) {
-        Found::At(_) => true,
-        Found::Gap(_) => false,
-    }
-}
 
 // The pending record of the id goes, if there is one. The answer is how many are left.
 pub fn forget(pending: &mut [u8], used: usize, id: &[u8], on: Horizon) -> usize
