@@ -11,11 +11,11 @@ use Rattle.rules.specs.Estimator.{fresh, is-pending, find, holds, admit,
 use Rattle.rules.specs.Estimate.{column-of, column, passes, add-bucket, sums-down-to, rate-in-column, estimate}
 use Rattle.rules.specs.Memory.{pending-records, confirmed-records, lay-pending, lay-confirmed, sound-pending, sound-confirmed, sound-counts, sound, view, state-of, lay}
 use Rattle.rules.specs.Calls.{start-call, enter-call, leave-call, gap, ids-of, held-once-listed, block-call, rate-answer, estimate-call}
-use Rattle.rules.proofs.Edge.{same-counts, only}
+use Rattle.rules.proofs.Edge.{plain-zero, same-count, same-counts, only}
 
 -- document 01's steps and the estimate
 unfoldable pub compute-steps : Unit {0}
-unfolding round add mul div le toBits count any every keep insert places same below dropped placed ladder last-not-above bucket-index bucket-for gain apply-decay fresh is-pending find holds admit tx-entered tx-left record-confirmation expire-targets advance-height advances advance-heights skip-heights confirm confirm-all finish-block block-connected column-of column passes add-bucket sums-down-to rate-in-column estimate same-counts only
+unfolding round add mul div le toBits count any every keep insert places same below dropped placed ladder last-not-above bucket-index bucket-for gain apply-decay fresh is-pending find holds admit tx-entered tx-left record-confirmation expire-targets advance-height advances advance-heights skip-heights confirm confirm-all finish-block block-connected column-of column passes add-bucket sums-down-to rate-in-column estimate plain-zero same-count same-counts only
 compute-steps = tt
 
 -- the public calls, which judge memory, take the steps and lay the tables

@@ -1,10 +1,10 @@
 -- Edges of the public calls of a board: one call on given memory, its answer, and what the tables and the state are afterwards. Assumes nothing.
-use Prim.Native.Nat.{ℕ, _+_, _-_, _*_}
-use mathlib.Core.Bool.{Bool, true, false, _&&_}
+use Prim.Native.Nat.{ℕ, zero, suc, _+_, _-_, _*_}
+use mathlib.Core.Bool.{Bool, true, false, not, cond, _&&_}
 use mathlib.Core.List.{List, [], _∷_, _++_}
 use lib.Dec.{eqb}
 use lib.ListN.{take, drop, replicate}
-use lib.Ieee.{Float, binary64, toBits}
+use lib.Ieee.{Float, nan, inf, fin, binary64, toBits}
 use Rattle.kinds.specs.declared.State.{State}
 use Rattle.kinds.specs.declared.Last.the-variants.{Nothing}
 use Rattle.kinds.specs.Answers.{Answer}
@@ -16,12 +16,23 @@ use Rattle.rules.specs.Calls.{start-call, enter-call, leave-call, block-
 
 -- ---- counts
 
--- the same binary64 patterns
+-- +0.0
+unfoldable pub plain-zero : Float → Bool
+plain-zero nan = false
+plain-zero (inf s) = false
+plain-zero (fin s zero e) = not s
+plain-zero (fin s (suc m) e) = false
+
+-- the same binary64 pattern: both +0.0, or else by their bits, which take longer to compute
+unfoldable pub same-count : Float → Float → Bool
+same-count x y = cond (plain-zero x && plain-zero y) true (eqb (toBits binary64 x) (toBits binary64 y))
+
+-- the same patterns
 unfoldable pub same-counts : Counts → Counts → Bool
 same-counts [] [] = true
 same-counts [] (y ∷ ys) = false
 same-counts (x ∷ xs) [] = false
-same-counts (x ∷ xs) (y ∷ ys) = eqb (toBits binary64 x) (toBits binary64 y) && same-counts xs ys
+same-counts (x ∷ xs) (y ∷ ys) = same-count x y && same-counts xs ys
 
 -- these counts in the bucket b, and +0.0 elsewhere
 unfoldable pub only : ℕ → List Float → Counts

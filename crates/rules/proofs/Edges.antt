@@ -1,18 +1,16 @@
--- The edges that document 01 draws and does not mark P: the answers, their order, 4,096, 25 blocks of pruning, 1.0 and 0.85; on memory with junk beyond its
--- capacities. Assumes nothing.
+-- Edges that document 01 draws and does not mark P: the answers, their order, 4,096, 25 blocks of pruning, 1.0 and 0.85; on memory with junk beyond its
+-- capacities. Here are those that an edit of a definition moves; the crate `edges` has the others. Assumes nothing.
 use Prim.Native.Nat.{ℕ, zero, suc, _-_, _*_}
 use mathlib.Core.List.{List, [], _∷_, _++_}
-use mathlib.Core.Bool.{true}
-use lib.IntN.{pos}
 use lib.ListN.{replicate}
-use lib.Ieee.{Float, nan, inf, fin, binary64, mul}
+use lib.Ieee.{Float, binary64, mul}
 use Rattle.kinds.specs.declared.State.{State}
 use Rattle.kinds.specs.declared.Last.{Last}
 use Rattle.kinds.specs.declared.Last.the-variants.{Nothing, At}
 use Rattle.rules.specs.Counts.{Counts, columns, places-of-counts, decimal, nought, one, no-counts}
 use Rattle.rules.specs.Board.{Board, base}
 use Rattle.rules.specs.Memory.{Lent, lent}
-use Rattle.rules.proofs.Edge.{id, enters, enters-at, leaves, connects, estimates, Edge, says, starts, leaves-tables, leaves-counts, leaves-beyond}
+use Rattle.rules.proofs.Edge.{id, enters, enters-at, leaves, connects, estimates, Edge, says, starts, leaves-tables, leaves-counts}
 
 -- ---- memory, with three bytes past the pending capacity and one past the confirmed capacity
 
@@ -47,10 +45,6 @@ first-count x = x ∷ replicate (places-of-counts - 1) nought
 abbrev pub one-missing : Counts
 one-missing = replicate (places-of-counts - 1) nought
 
--- a number that is no count
-abbrev pub minus-one : Float
-minus-one = fin true 1 (pos 0)
-
 -- the count of target 1 in each of the first three buckets
 abbrev pub three : Float → Float → Float → Counts
 three x y z = x ∷ replicate (columns - 1) nought ++ (y ∷ replicate (columns - 1) nought) ++ (z ∷ replicate (places-of-counts - 2 * columns - 1) nought)
@@ -58,10 +52,6 @@ three x y z = x ∷ replicate (columns - 1) nought ++ (y ∷ replicate (columns 
 -- a pending record whose entry height is the greatest
 abbrev pub late : ℕ → ℕ → List ℕ
 late n t = id n ++ (33 ∷ 0 ∷ 0 ∷ 0 ∷ 255 ∷ 255 ∷ 255 ∷ 255 ∷ t ∷ 0 ∷ 0 ∷ 0 ∷ [])
-
--- a confirmed record whose height is the greatest
-abbrev pub high : ℕ → List ℕ
-high n = id n ++ (255 ∷ 255 ∷ 255 ∷ 255 ∷ [])
 
 -- x after n heights of a board, rounded at each
 unfoldable pub decayed : Board → ℕ → Float → Float
@@ -100,25 +90,6 @@ edges =
     ∷ says (enters-at 1000 (state Nothing 0 0) (zeros 44) (id 1)) 0 []
     -- 4
     ∷ says (leaves (state Nothing 1 0) (pending 1 33 0 ++ (5 ∷ [])) (id 2)) 4 []
-    -- block judges all: each count, each table
-    ∷ says (connects (state Nothing 0 0) (lent (first-count minus-one) no-counts [] []) [] 101) 1 []
-    ∷ says (connects (state Nothing 0 0) (lent no-counts (first-count (inf true)) [] []) [] 101) 1 []
-    ∷ says (connects (state Nothing 0 0) (lent no-counts (first-count nan) [] []) [] 101) 1 []
-    ∷ says (connects (state Nothing 0 0) (lent (first-count (fin true 0 (pos 0))) no-counts [] []) [] 101) 0 []
-    ∷ says (connects (state Nothing 1 0) (memory (pending 1 142 0) []) [] 101) 1 []
-    ∷ says (connects (state Nothing 0 1) (memory [] (confirmed 1 5)) [] 101) 0 []
-    ∷ says (connects (state Nothing 0 2) (memory [] (confirmed 1 5)) [] 101) 1 []
-    -- the confirmed table as the pending one: an id twice, ids that fall, an unused place not zero
-    ∷ says (connects (state Nothing 0 2) (memory [] (confirmed 1 5 ++ confirmed 1 5)) [] 101) 1 []
-    ∷ says (connects (state Nothing 0 2) (memory [] (confirmed 2 5 ++ confirmed 1 5)) [] 101) 1 []
-    ∷ says (connects (state Nothing 0 1) (memory [] (confirmed 1 5 ++ confirmed 2 5)) [] 101) 1 []
-    -- 5 before 6; 6 before 7; 7 where more confirmed records would be held than there are places
-    ∷ says (connects (state Nothing 1 0) one-pending (0 ∷ id 1) 101) 5 []
-    ∷ says (connects (state (at 100) 1 0) one-pending (0 ∷ id 1) 9999) 5 []
-    ∷ says (connects (state (at 100) 1 1) (memory (late 1 0) (confirmed 2 255)) (0 ∷ id 1) 101) 5 []
-    ∷ says (connects (state (at 100) 1 1) (memory (late 1 0) (high 2)) (id 1) 4197) 6 []
-    ∷ says (connects (state (at 100) 1 1) (memory (late 1 0) (high 2)) (id 1) 4196) 7 []
-    ∷ says (connects (state (at 100) 1 1) (memory (late 1 0) (high 2 ++ zeros 36)) (id 1) 4196) 0 []
     -- an id listed three times counts once, beside another too; one that is not pending needs no room
     ∷ says (connects (state Nothing 1 0) (memory (pending 1 33 0) (zeros 36)) (id 1 ++ id 1 ++ id 1) 101) 0 []
     ∷ says (connects (state Nothing 1 0) (memory (pending 1 33 0) []) (id 1 ++ id 1 ++ id 1) 101) 7 []
@@ -126,42 +97,15 @@ edges =
     ∷ says (connects (state Nothing 2 0) (memory (pending 1 33 0 ++ pending 2 33 0) (zeros 36)) (id 1 ++ id 2 ++ id 1) 101) 7 []
     ∷ says (connects (state Nothing 1 1) (memory (pending 1 33 0) (confirmed 2 100)) (id 3 ++ id 2) 101) 0 []
     ∷ says (connects (state Nothing 1 1) (memory (pending 1 33 0) (confirmed 2 100)) (id 3 ++ id 1) 101) 7 []
-    -- one that still has a record after the skipped heights needs none, whether of another height or of the block's own; with a record of another id there is no room
-    ∷ says (connects (state (at 100) 1 1) (memory (pending 1 33 0) (confirmed 1 99)) (id 1) 103) 0 []
-    ∷ says (connects (state (at 100) 1 1) (memory (pending 1 33 0) (confirmed 1 103)) (id 1) 103) 0 []
-    ∷ says (connects (state (at 100) 1 1) (memory (pending 1 33 0) (confirmed 2 99)) (id 1) 103) 7 []
-    -- but one whose record they prune needs a place again: of ids 1 and 3, and the record of 2, that is the third
-    ∷ says (connects (state (at 101) 2 2) (memory (late 1 0 ++ late 3 0) (confirmed 1 100 ++ confirmed 2 101)) (id 1 ++ id 3) 127) 7 []
-    ∷ says (connects (state (at 101) 2 2) (memory (late 1 0 ++ late 3 0) (confirmed 1 100 ++ confirmed 2 101 ++ zeros 36)) (id 1 ++ id 3) 127) 0 []
     -- the skipped heights make room: a record of height 100 stays at 125 and goes at 126; the block's own height makes none
     ∷ says (connects (state (at 101) 1 1) (memory (late 1 0) (confirmed 2 100)) (id 1) 127) 0 []
     ∷ says (connects (state (at 101) 1 1) (memory (late 1 0) (confirmed 2 100)) (id 1) 126) 7 []
     ∷ says (connects (state (at 125) 1 1) (memory (late 1 0) (confirmed 2 100)) (id 1) 126) 7 []
     ∷ says (connects (state (at 125) 1 1) (memory (late 1 0) (confirmed 2 100)) (id 1) 127) 0 []
-    -- without skipped heights nothing is pruned: at the next height, at the first block, at one that repeats the last height or falls
-    ∷ says (connects (state (at 200) 1 1) (memory (late 1 0) (confirmed 2 100)) (id 1) 201) 7 []
-    ∷ says (connects (state (at 200) 1 1) (memory (late 1 0) (confirmed 2 100)) (id 1) 202) 0 []
-    ∷ says (connects (state Nothing 1 1) (memory (late 1 0) (confirmed 2 100)) (id 1) 202) 7 []
-    ∷ says (connects (state (at 200) 1 1) (memory (late 1 0) (confirmed 2 100)) (id 1) 200) 7 []
-    ∷ says (connects (state (at 200) 1 1) (memory (late 1 0) (confirmed 2 100)) (id 1) 150) 7 []
-    -- one that expires in them needs no room: entered at 100 it goes at 125, so before a block at 126 after 101, and not before one at 125
-    ∷ says (connects (state (at 101) 1 1) (memory (pending 1 33 1) (confirmed 2 200)) (id 1) 126) 0 []
-    ∷ says (connects (state (at 101) 1 1) (memory (pending 1 33 1) (confirmed 2 200)) (id 1) 125) 7 []
-    ∷ says (connects (state (at 124) 1 1) (memory (pending 1 33 24) (confirmed 2 200)) (id 1) 125) 7 []
-    -- resolved-through 25 goes at the next height, which must be a skipped one
-    ∷ says (connects (state (at 100) 1 1) (memory (pending 1 33 25) (confirmed 2 200)) (id 1) 101) 7 []
-    ∷ says (connects (state (at 100) 1 1) (memory (pending 1 33 25) (confirmed 2 200)) (id 1) 102) 0 []
-    ∷ says (connects (state Nothing 1 1) (memory (pending 1 33 25) (confirmed 2 200)) (id 1) 102) 7 []
-    ∷ leaves-tables (state (at 100) 1 1) (memory (pending 1 33 25) (confirmed 2 200)) (id 1) 102 (zeros 44 ++ (7 ∷ 7 ∷ 7 ∷ [])) (confirmed 2 200 ++ (9 ∷ [])) 0 1
     -- gap 4,096 runs; 4,097 is refused; no last height is no gap
     ∷ says (connects (state (at 100) 1 0) one-pending [] 4196) 0 []
     ∷ says (connects (state (at 100) 1 0) one-pending [] 4197) 6 []
     ∷ says (connects (state Nothing 1 0) one-pending [] 4197) 0 []
-    -- exactly B: the pending record goes uncounted, no decay; bytes beyond the capacities stay
-    ∷ leaves-tables (state (at 101) 1 1) (memory (pending 1 33 0 ++ zeros 44) (confirmed 1 101 ++ zeros 36)) (id 1) 101 (zeros 88 ++ (7 ∷ 7 ∷ 7 ∷ [])) (confirmed 1 101 ++ zeros 36 ++ (9 ∷ [])) 0 1
-    ∷ leaves-counts (state (at 101) 1 1) (memory (pending 1 33 0 ++ zeros 44) (confirmed 1 101 ++ zeros 36)) (id 1) 101 33 (replicate columns nought) (replicate columns nought)
-    -- another confirmed height: counted, and the height becomes B
-    ∷ leaves-tables (state (at 101) 1 1) (memory (pending 1 33 0 ++ zeros 44) (confirmed 1 100 ++ zeros 36)) (id 1) 101 (zeros 88 ++ (7 ∷ 7 ∷ 7 ∷ [])) (confirmed 1 101 ++ zeros 36 ++ (9 ∷ [])) 0 1
     -- a confirmed record of height 101 stays at 126 and goes at 127; one above the height stays
     ∷ leaves-tables (state (at 125) 0 1) (memory (zeros 88) (confirmed 1 101 ++ zeros 36)) [] 126 (zeros 88 ++ (7 ∷ 7 ∷ 7 ∷ [])) (confirmed 1 101 ++ zeros 36 ++ (9 ∷ [])) 0 1
     ∷ leaves-tables (state (at 126) 0 1) (memory (zeros 88) (confirmed 1 101 ++ zeros 36)) [] 127 (zeros 88 ++ (7 ∷ 7 ∷ 7 ∷ [])) (zeros 72 ++ (9 ∷ [])) 0 0
@@ -172,14 +116,6 @@ edges =
     ∷ leaves-counts (state (at 9) 1 0) (memory (late 1 5 ++ zeros 44) (zeros 72)) (id 1) 10 33 (replicate columns (decimal 998 1000)) (replicate 5 nought ++ replicate 20 (decimal 998 1000))
     -- skipped heights one by one: entered at 100, last height 100, block 103, unlisted: target 1 decays three times, 2 twice, 3 once
     ∷ leaves-counts (state (at 100) 1 0) one-pending [] 103 33 (replicate columns nought) (decayed base 3 one ∷ decayed base 2 one ∷ decayed base 1 one ∷ replicate 22 nought)
-    -- 3.0 through those heights is rounded three times: one multiplication by a power gives another number
-    ∷ leaves-counts (state (at 100) 0 0) (lent (first-count (decimal 3 1)) no-counts [] []) [] 103 0 (decayed base 3 (decimal 3 1) ∷ replicate 24 nought) (replicate columns nought)
-    -- what is lent past the 3,550 counts is neither judged nor changed
-    ∷ leaves-beyond (state (at 100) 0 0) (lent (no-counts ++ (minus-one ∷ [])) (no-counts ++ (one ∷ [])) [] []) [] 101 (minus-one ∷ []) (one ∷ [])
-    ∷ says (estimates (first-count one ++ (nan ∷ [])) (first-count one ++ (minus-one ∷ [])) 1) 0 (1000 ∷ [])
-    -- estimate judges only the counts, at target 0 too
-    ∷ says (estimates one-missing no-counts 0) 1 []
-    ∷ says (estimates no-counts (first-count (inf true)) 1) 1 []
     -- target 0 gives none, also of counts that give target 1 a rate
     ∷ says (estimates (first-count one) (first-count one) 0) 0 []
     -- the resolved sum at least 1.0: one unit of the last place below it is none

@@ -1,40 +1,24 @@
--- The edges that document 02 draws for the wide board, both sides of each, through the public calls: waits of 6 and 7, a life of 150 blocks, 25 blocks of pruning,
--- targets up to 150. Assumes nothing.
+-- Edges that document 02 draws for the wide board, both sides of each, through the public calls: waits of 6 and 7, 25 blocks of pruning, targets up to 7. Here are
+-- those that an edit of a definition moves; the crate `edges` has the others. Assumes nothing.
 use Prim.Native.Nat.{ℕ}
 use mathlib.Core.List.{List, [], _∷_, _++_}
 use lib.ListN.{replicate}
 use lib.Ieee.{Float}
 use Rattle.kinds.specs.declared.Last.the-variants.{Nothing}
-use Rattle.rules.specs.Counts.{Counts, columns, nought, one}
+use Rattle.rules.specs.Counts.{columns, nought, one}
 use Rattle.rules.specs.Board.{wide}
-use Rattle.rules.specs.Memory.{Lent}
-use Rattle.rules.proofs.Edge.{id, enters-at, leaves, connects, estimates, Edge, says, leaves-tables, leaves-counts, only}
-use Rattle.rules.proofs.Edges.{zeros, pending, late, confirmed, high, memory, one-pending, state, at, first-count, decayed}
+use Rattle.rules.proofs.Edge.{id, enters-at, leaves, estimates, Edge, says, leaves-tables, leaves-counts}
+use Rattle.rules.proofs.Edges.{zeros, pending, confirmed, memory, one-pending, state, at, first-count, decayed}
 
 -- one, n heights later
-abbrev after : ℕ → Float
+abbrev pub after : ℕ → Float
 after n = decayed wide n one
-
--- one count, of the last column
-abbrev last-column : Counts
-last-column = only 0 (replicate 24 nought ++ (one ∷ []))
-
--- a record entered at 100 that has outwaited 24 columns
-abbrev nearly-gone : Lent
-nearly-gone = memory (pending 1 33 24 ++ zeros 44) (zeros 72)
 
 unfoldable pub wide-edges : List Edge
 wide-edges =
     -- entered at 100: a wait of 6 fits column 1, one of 7 only the columns from 2 on; either way every column is resolved
     leaves-counts (state Nothing 1 0) one-pending (id 1) 106 33 (replicate columns (after 1)) (replicate columns (after 1))
     ∷ leaves-counts (state Nothing 1 0) one-pending (id 1) 107 33 (nought ∷ replicate 24 (after 1)) (replicate columns (after 1))
-    -- height by height, unlisted: at 105 nothing is resolved, at 106 column 1, which then decays at 107 too
-    ∷ leaves-counts (state (at 104) 1 0) one-pending [] 105 33 (replicate columns nought) (replicate columns nought)
-    ∷ leaves-counts (state (at 104) 1 0) one-pending [] 107 33 (replicate columns nought) (after 2 ∷ replicate 24 nought)
-    -- alive at 249; gone at 250, where its last column is resolved
-    ∷ leaves-tables (state (at 248) 1 0) nearly-gone [] 249 (pending 1 33 24 ++ zeros 44 ++ (7 ∷ 7 ∷ 7 ∷ [])) (zeros 72 ++ (9 ∷ [])) 1 0
-    ∷ leaves-tables (state (at 249) 1 0) nearly-gone [] 250 (zeros 88 ++ (7 ∷ 7 ∷ 7 ∷ [])) (zeros 72 ++ (9 ∷ [])) 0 0
-    ∷ leaves-counts (state (at 249) 1 0) nearly-gone [] 250 33 (replicate columns nought) (replicate 24 nought ++ (after 1 ∷ []))
     -- a confirmed record of height 101 stays at 126 and goes at 127: after 25 blocks, not after 150
     ∷ leaves-tables (state (at 125) 0 1) (memory (zeros 88) (confirmed 1 101 ++ zeros 36)) [] 126 (zeros 88 ++ (7 ∷ 7 ∷ 7 ∷ [])) (confirmed 1 101 ++ zeros 36 ++ (9 ∷ [])) 0 1
     ∷ leaves-tables (state (at 126) 0 1) (memory (zeros 88) (confirmed 1 101 ++ zeros 36)) [] 127 (zeros 88 ++ (7 ∷ 7 ∷ 7 ∷ [])) (zeros 72 ++ (9 ∷ [])) 0 0
@@ -45,30 +29,9 @@ wide-edges =
     ∷ says (enters-at 999 (state Nothing 1 0) (pending 1 33 0 ++ zeros 44) (id 1)) 16 []
     ∷ says (enters-at 999 (state Nothing 0 0) (zeros 44) (id 1)) 16 []
     ∷ says (enters-at 1000 (state Nothing 0 0) (zeros 44) (id 1)) 0 []
-    -- the gap of 4,096 is the base board's
-    ∷ says (connects (state (at 100) 1 0) one-pending [] 4196) 0 []
-    ∷ says (connects (state (at 100) 1 0) one-pending [] 4197) 6 []
-    -- what expires in the skipped heights needs no room: entered at 100 it goes at 250, so before a block at 251 after 248, and not before one at 250
-    ∷ says (connects (state (at 248) 1 1) (memory (pending 1 33 24) (high 2)) (id 1) 251) 0 []
-    ∷ says (connects (state (at 248) 1 1) (memory (pending 1 33 24) (high 2)) (id 1) 250) 7 []
-    ∷ says (connects (state (at 101) 1 1) (memory (pending 1 33 0) (high 2)) (id 1) 126) 7 []
-    -- resolved-through 25 goes at the next height, which must be a skipped one
-    ∷ says (connects (state (at 100) 1 1) (memory (pending 1 33 25) (high 2)) (id 1) 101) 7 []
-    ∷ says (connects (state (at 100) 1 1) (memory (pending 1 33 25) (high 2)) (id 1) 102) 0 []
-    -- they make room after 25 blocks, as on the base board, and the block's own height makes none
-    ∷ says (connects (state (at 101) 1 1) (memory (late 1 0) (confirmed 2 100)) (id 1) 127) 0 []
-    ∷ says (connects (state (at 101) 1 1) (memory (late 1 0) (confirmed 2 100)) (id 1) 126) 7 []
     -- a count of column 1: targets 1 to 6 have its rate, 0 none, and 7 is the next column's
     ∷ says (estimates (first-count one) (first-count one) 0) 0 []
     ∷ says (estimates (first-count one) (first-count one) 1) 0 (1000 ∷ [])
     ∷ says (estimates (first-count one) (first-count one) 6) 0 (1000 ∷ [])
     ∷ says (estimates (first-count one) (first-count one) 7) 0 []
-    -- a count of column 25: targets 145 to 150 have its rate, and more means 150
-    ∷ says (estimates last-column last-column 0) 0 []
-    ∷ says (estimates last-column last-column 144) 0 []
-    ∷ says (estimates last-column last-column 145) 0 (1000 ∷ [])
-    ∷ says (estimates last-column last-column 149) 0 (1000 ∷ [])
-    ∷ says (estimates last-column last-column 150) 0 (1000 ∷ [])
-    ∷ says (estimates last-column last-column 151) 0 (1000 ∷ [])
-    ∷ says (estimates last-column last-column 4294967295) 0 (1000 ∷ [])
     ∷ []
