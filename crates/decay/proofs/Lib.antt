@@ -2,3 +2,5 @@
 
 -- rows that are not stored
 pub mod Skipped
+-- many times
+pub mod Often

@@ -1,5 +1,5 @@
 -- What an advance of ready memory leaves is the advanced estimator, laid: counts and tables each by their own law. Assumes nothing.
-use mathlib.Core.Path.{_≡_, sym, subst, _∙_}
+use mathlib.Core.Path.{_≡_, sym, ap, subst, _∙_}
 use mathlib.Core.List.{List, _++_, map}
 use Prim.Native.Nat.{ℕ, _-_, _*_, _≤_}
 use native.Mathlib.Nat.{le-refl}
@@ -33,6 +33,8 @@ use Rattle.table.proofs.Edited.{passed}
 use Rattle.expiry.specs.Fields.{raised, waiting}
 use Rattle.expiry.proofs.Fields.{length-raised}
 use Rattle.expiry.proofs.Steps.{pending-expired, confirmed-pruned}
+use Rattle.decay.specs.Decay.{often}
+use Rattle.decay.proofs.Often.{once}
 use Rattle.ready.specs.Ready.{Ready}
 use Rattle.ready.proofs.Facts.{resolved-places, pending-sound, recent-sound}
 use Rattle.expiry.proofs.Expiry.{expire-first}
@@ -41,6 +43,10 @@ use Rattle.expiry.proofs.Expiry.{expire-first}
 
 decayed : (d : Float) (xs E R : Counts) → length E ≡ places-of-counts → xs ≡ E ++ R → apply-decay d (take places-of-counts xs) ++ drop places-of-counts xs ≡ apply-decay d E ++ R
 decayed d xs E R n e = rw (e, take-at E R places-of-counts n, drop-at E R places-of-counts n)
+
+-- one height is one decay
+plain : (d : Float) (xs : Counts) → map (often 1 d) (take places-of-counts xs) ++ drop places-of-counts xs ≡ apply-decay d (take places-of-counts xs) ++ drop places-of-counts xs
+plain d xs = ap (λ (ys : Counts). ys ++ drop places-of-counts xs) (once d (take places-of-counts xs))
 
 -- the same state and the same memory
 same : {h : Height} {p q m n : ℕ} {c c' r r' : List Float} {x x' y y' : List ℕ} → p ≡ q → m ≡ n → c ≡ c' → r ≡ r' → x ≡ x' → y ≡ y'
@@ -115,8 +121,8 @@ module _ (on : Horizon) (s : State) (l : Lent) (r : Ready (board-of on) s l) whe
       → es ≡ expire-targets k (h .0) (pending-records k (s .pending) (l .pending)) (l .resolved)
       → p ≡ length (expired (h .0))
       → ps ≡ laid size (s .pending) (expired (h .0)) (l .pending)
-      → cs ≡ apply-decay d (take places-of-counts (l .confirmed)) ++ drop places-of-counts (l .confirmed)
-      → rs ≡ apply-decay d (take places-of-counts es) ++ drop places-of-counts es
+      → cs ≡ map (often 1 d) (take places-of-counts (l .confirmed)) ++ drop places-of-counts (l .confirmed)
+      → rs ≡ map (often 1 d) (take places-of-counts es) ++ drop places-of-counts es
       → q ≡ length (pruned (h .0))
       → ts ≡ laid confirmed-size (s .recent) (pruned (h .0)) (l .recent)
       → outcome done (record { last = At h; pending = p; recent = q }) (lent cs rs ps ts) ≡ accepted k (advance-height k (h .0) (view k s l)) l
@@ -124,4 +130,4 @@ module _ (on : Horizon) (s : State) (l : Lent) (r : Ready (board-of on) s l) whe
   advanced h d p q cs es rs ps ts factor bytes more-bytes e waiting pending confirmed resolved young recent =
       let a = pending-left (h .0) p ps bytes waiting pending in
       let b = recent-left (h .0) q ts more-bytes young recent in
-      same (a .0) (b .0) (confirmed ∙ rw factor) (resolved ∙ resolved-left (h .0) d es e ∙ rw factor) (a .1) (b .1)
+      same (a .0) (b .0) (confirmed ∙ plain d (l .confirmed) ∙ rw factor) (resolved ∙ plain d es ∙ resolved-left (h .0) d es e ∙ rw factor) (a .1) (b .1)

@@ -1,11 +1,13 @@
-// Heights advanced over the lent memory, one by one.
+// Heights advanced over the lent memory: one by one while there are records, and at once where only counts are left.
 use kinds::Blocks;
 use kinds::Height;
 use kinds::Horizon;
 use kinds::Last;
 use kinds::State;
 ghost use mathlib.Core.Path.{_≡_};
+ghost use mathlib.Core.Bool.{not, _&&_};
 ghost use Prim.Native.Nat.{_+_, _^_, _<_};
+ghost use lib.Dec.{eqb, ltb};
 ghost use Rattle.kinds.specs.Answers.{done};
 ghost use Rattle.rules.specs.Board.{board-of};
 ghost use Rattle.rules.specs.Estimator.{advance-height, advance-heights, skip-heights};
@@ -32,7 +34,7 @@ pub fn advance_height(
     let used = state.pending;
     let kept = state.recent;
     let waiting = expiry::expire_pending(resolved, pending, used, h, on);
-    decay::apply_decay(confirmed, resolved, boards::factor_of(on));
+    decay::apply_decay(confirmed, resolved, boards::factor_of(on), Blocks(1));
     let young = expiry::prune_confirmed(recent, kept, h);
     State {
         last: Last::At(h),
@@ -41,7 +43,17 @@ pub fn advance_height(
     }
 }
 
-// Advances the n heights after `low`, one by one.
+// Whether there is a height left to be advanced by itself: after i of n heights, with a record of either kind.
+fn goes_on(state: State, i: u32, n: u32) -> bool
+    ensures { λ r. ⌜ r ≡ (ltb i n && not (eqb (state .pending) 0 && eqb (state .recent) 0)) ⌝ }
+{
+    let used = state.pending;
+    let kept = state.recent;
+    let none = (used == 0) & (kept == 0);
+    (i < n) & !none
+}
+
+// Advances the n heights after `low`: one by one while there are records, and then at once, since nothing but the counts is left to change.
 fn advance_heights(
     state: State,
     confirmed: &mut [f64],
@@ -62,12 +74,22 @@ fn advance_heights(
     let count = n.0;
     let mut s = state;
     let mut i: u32 = 0;
-    while i < count {
+    while goes_on(s, i, count) {
         i += 1;
         let next = from + i;
         s = advance_height(s, confirmed, resolved, pending, recent, Height(next), on);
     }
-    s
+    if i == count {
+        return s;
+    }
+    let left = count - i;
+    let top = from + count;
+    decay::apply_decay(confirmed, resolved, boards::factor_of(on), Blocks(left));
+    State {
+        last: Last::At(Height(top)),
+        pending: 0,
+        recent: 0,
+    }
 }
 
 // Advances every height strictly between the last height, if there is one, and h.

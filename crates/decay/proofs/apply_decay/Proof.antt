@@ -4,30 +4,30 @@ use Prim.Native.Nat.{_*_, _-_, _≤_, _<_}
 use native.Mathlib.Omega.{arith}
 use denote.Ref.{now}
 use lib.ListN.{length}
-use lib.Ieee.{Float, nan, binary64, mul}
-use Rattle.rules.specs.Counts.{apply-decay}
+use lib.Ieee.{Float, nan}
 use Rattle.lists.specs.Upto.{upto}
 use Rattle.lists.proofs.Upto as up
 use Rattle.lists.proofs.Part.{part-turn}
+use Rattle.decay.specs.Decay.{often}
 use Rattle.decay.proofs.apply_decay.Statement.{statement}
 use Rattle.decay.proofs.apply_decay.Tie as tie
 
 abbrev Inv-loop : tie.InvT-loop
-Inv-loop confirmed₀ resolved₀ factor b₀ confirmed resolved b = (b ≤ 142) × (confirmed ≡ upto (λ v. mul binary64 v factor) (b * 25) confirmed₀) × (resolved ≡ upto (λ v. mul binary64 v factor) (b * 25) resolved₀)
+Inv-loop confirmed₀ resolved₀ factor times b₀ confirmed resolved b = (b ≤ 142) × (confirmed ≡ upto (often times factor) (b * 25) confirmed₀) × (resolved ≡ upto (often times factor) (b * 25) resolved₀)
 
 abbrev μ-loop : tie.MeasureT-loop
-μ-loop confirmed₀ resolved₀ factor b₀ confirmed resolved b = 142 - b
+μ-loop confirmed₀ resolved₀ factor times b₀ confirmed resolved b = 142 - b
 
 lengths : (c : tie.At-loop Inv-loop μ-loop) → (length (c .loop .confirmed) ≡ length (now (c .before .before .before .args .confirmed))) × (length (c .loop .resolved) ≡ length (now (c .before .before .before .args .resolved)))
 lengths c =
     let a = c .before .before .before .args in
-    let f : Float → Float = λ v. mul binary64 v (a .factor) in
+    let f : Float → Float = often (a .heights .0) (a .factor) in
     (ap length (c .loop .inv .1) ∙ up.same-length f nan (now (a .confirmed)) (c .loop .b * 25) (omega arith), ap length (c .loop .inv .2) ∙ up.same-length f nan (now (a .resolved)) (c .loop .b * 25) (omega arith))
 
 loop-holds : tie.Need-loop-holds Inv-loop μ-loop
 loop-holds c =
     let a = c .before .before .args in
-    (omega arith, sym (up.none (λ v. mul binary64 v (a .factor)) nan (now (a .confirmed))), sym (up.none (λ v. mul binary64 v (a .factor)) nan (now (a .resolved))))
+    (omega arith, sym (up.none (often (a .heights .0) (a .factor)) nan (now (a .confirmed))), sym (up.none (often (a .heights .0) (a .factor)) nan (now (a .resolved))))
 
 decay-bucket-requires : tie.Need-decay-bucket-requires Inv-loop μ-loop
 decay-bucket-requires c κs =
@@ -37,13 +37,12 @@ decay-bucket-requires c κs =
     ((h, omega arith, omega arith), l .before .before .before .pre .1)
 
 loop-again : tie.Need-loop-again Inv-loop μ-loop
-unfolding apply-decay
 loop-again c =
     let done = c .before .before .before .before .decay-bucket in
     let l = c .before .before .before .before .before .before .before .before in
     let s = l .before .before .before in
     let a = s .args in
-    let f : Float → Float = λ v. mul binary64 v (a .factor) in
+    let f : Float → Float = often (a .heights .0) (a .factor) in
     let h : l .loop .b < 142 = c .before .before .before .before .before .before .before .loop-test .taken in
     let p = s .pre .0 in (
       omega arith,
@@ -58,7 +57,7 @@ same-length-2 : tie.Need-same-length-2 Inv-loop μ-loop
 same-length-2 c = lengths (c .before) .1
 
 returns : tie.Need-returns Inv-loop μ-loop
-unfolding apply-decay upto
+unfolding upto
 returns c =
     let l = c .before .loop in
     let e : l .b ≡ 142 = omega arith in
