@@ -127,10 +127,10 @@ add-lo : tie.Need-add-lo Inv-loop μ-loop
 add-lo c = omega (arith, mid< (c .before .before))
 
 loop-again : tie.Need-loop-again Inv-loop μ-loop
-loop-again c = lower (c .before .before) (words-under (c .before) (c .if1 .taken))
+loop-again c = lower (c .before .before) (words-under (c .before) (omega (arith, c .if1 .taken)))
 
 loop-again-2 : tie.Need-loop-again-2 Inv-loop μ-loop
-loop-again-2 c = upper (c .before .before .before) (words-over (c .before .before) (c .if2 .taken))
+loop-again-2 c = upper (c .before .before .before) (words-over (c .before .before) (omega (arith, c .if2 .taken)))
 
 compare-id-requires : tie.Need-compare-id-requires Inv-loop μ-loop
 compare-id-requires c κs = omega (arith, end (c .before .before .before))
