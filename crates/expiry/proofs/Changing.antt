@@ -27,6 +27,10 @@ module _ (f : List ℕ → List ℕ) (size used : ℕ) (xs : List ℕ) where
   pub length-changing : (i : ℕ) (a : List ℕ) → Changing f size used xs i a → length a ≡ length xs
   length-changing i a c = holds-length size used xs (c .holds)
 
+  -- record i is as it was
+  pub changing-still : (i : ℕ) (a : List ℕ) → i < used → Changing f size used xs i a → getD (records size used a) i [] ≡ getD (records size used xs) i []
+  changing-still i a h c = ap (λ (rs : List (List ℕ)). getD rs i []) (holds-records size used xs (c .holds)) ∙ up.still f [] (records size used xs) i (rw length-records h)
+
   pub changing-more : ((r : List ℕ) → length r ≡ size → length (f r) ≡ size) → (i : ℕ) (a b : List ℕ) → i < used → Changing f size used xs i a
       → b ≡ laid size used (set (records size used a) i (f (getD (records size used a) i []))) a → Changing f size used xs (i + 1) b
   changing-more g i a b h c e =

@@ -8,7 +8,7 @@ use native.Mathlib.Nat.{not-suc-le-zero, le-of-suc-le-suc}
 use native.Mathlib.Numerals.{add-one}
 use native.Mathlib.Omega.{arith}
 use lib.Dec.{leb, ltb}
-use lib.ListN.{length, take, drop, getD, length-map, length-append, take-append-drop, drop-of-length-le, List·getD-map}
+use lib.ListN.{length, take, drop, getD, length-append, take-append-drop, drop-of-length-le, List·getD-map}
 use lib.Seq.{drop-cons, take-at, drop-at, length-take-le}
 use Rattle.rules.specs.Ladder.{buckets}
 use Rattle.rules.specs.Board.{Board, Pending}
@@ -17,7 +17,7 @@ use Rattle.rules.specs.Records.{records}
 use Rattle.rules.specs.Estimator.{outwaited, expire-targets}
 use Rattle.rules.specs.Memory.{pending-records}
 use Rattle.rules.proofs.All.{All, none, more}
-use Rattle.rules.proofs.Records.{length-records}
+use Rattle.rules.proofs.Memory.{pending-length}
 use Rattle.rules.proofs.Well.{WellPending, length-gain}
 use Rattle.counts.proofs.Gain.{gain-first}
 
@@ -30,17 +30,13 @@ all-at (more p ps) (suc i) d h = all-at ps i d (le-of-suc-le-suc h)
 -- ---- pending records by their number
 
 module _ (k : Board) (used : ℕ) (xs : List ℕ) where
-  how-many : length (pending-records k used xs) ≡ used
-  unfolding pending-records
-  how-many = length-map (records (k .table .size) used xs) (k .table .read) ∙ length-records (k .table .size) used xs
-
   number : (i : ℕ) → getD (pending-records k used xs) i (k .table .read []) ≡ k .table .read (getD (records (k .table .size) used xs) i [])
   unfolding pending-records
   number i = List·getD-map (k .table .read) (records (k .table .size) used xs) i []
 
   pub bucket-at : All WellPending (pending-records k used xs) → (i : ℕ) → i < used → k .table .read (getD (records (k .table .size) used xs) i []) .bucket < buckets
   bucket-at w i h =
-      let n = how-many in
+      let n = pending-length k used xs in
       let b = rw (number i) at (all-at w i (k .table .read []) (omega arith) .bucket) in
       omega arith
 
@@ -65,7 +61,7 @@ module _ (k : Board) (h used : ℕ) (xs : List ℕ) where
       → es ≡ expire-targets k h (k .table .read (getD (records (k .table .size) used xs) i []) ∷ []) ds → Going k h used xs cs es (i + 1)
   unfolding expire-targets
   next {cs} {ds} {es} {i} g m l e =
-      let n = how-many k used xs in
+      let n = pending-length k used xs in
       let rs : List Pending = pending-records k used xs in
       let d : drop i rs ≡ k .table .read (getD (records (k .table .size) used xs) i []) ∷ drop (suc i) rs =
       drop-cons rs i (k .table .read []) (omega arith) ∙ ap (λ (r : Pending). r ∷ drop (suc i) rs) (number k used xs i) in
@@ -78,7 +74,7 @@ module _ (k : Board) (h used : ℕ) (xs : List ℕ) where
   pub stop : {cs ds : Counts} {i : ℕ} → Going k h used xs cs ds i → used ≤ i → ds ≡ expire-targets k h (pending-records k used xs) cs
   unfolding expire-targets
   stop {cs} {ds} {i} g m =
-      let n = how-many k used xs in
+      let n = pending-length k used xs in
       rw (drop-of-length-le (pending-records k used xs) {i = i} (omega arith)) at (g .left)
 
 -- ---- only the 3,550 counts gain; anything lent beyond is as it was

@@ -39,13 +39,15 @@ fn passes(table: &[u8], size: usize, i: usize, off: usize, b: Bound) -> bool
     within(mem::u32_le(table, i * size + off), b)
 }
 
-// One turn of `keep_passing`: where record `i` stays it becomes record `k`, and the answer is the next `k`.
+// One turn of `keep_passing`: where record `i` stays it becomes record `k`, moved only if it is not that already, and the answer is the next `k`.
 fn keep_one(table: &mut [u8], size: usize, k: usize, i: usize, off: usize, b: Bound) -> usize
     requires { ⌜ (off + 4 ≤ size) × ((k ≤ i) × (i * size + size ≤ length (now table))) ⌝ }
     ensures { λ r. ⌜ Moved (passing off b) size k i (now (table .entry)) (now (table .exit)) r ⌝ }
 {
     if passes(table, size, i, off, b) {
-        mem::shift_down(table, k * size, i * size - k * size, size);
+        if k < i {
+            mem::shift_down(table, k * size, i * size - k * size, size);
+        }
         k + 1
     } else {
         k

@@ -6,44 +6,42 @@ use kinds::MAX_CONF_TARGET;
 use kinds::MAX_CONFIRMED_RECORDS;
 use kinds::MAX_PENDING_ENTRIES;
 ghost use mathlib.Core.Path.{_≡_};
+ghost use mathlib.Core.Bool.{_&&_};
 ghost use mathlib.Core.List.{[], map};
 ghost use Prim.Native.Nat.{_*_, _≤_, _<_};
+ghost use lib.Dec.{leb};
 ghost use lib.ListN.{length, getD};
 ghost use lib.Seq.{slice};
 ghost use Rattle.rules.specs.Lists.{every};
-ghost use Rattle.rules.specs.Records.{records, all-zero, sound-table};
+ghost use Rattle.rules.specs.Ids.{rising};
+ghost use Rattle.rules.specs.Records.{records, id-of, capacity, all-zero};
 ghost use Rattle.rules.specs.Memory.{sound-pending, sound-confirmed};
 ghost use Rattle.rules.specs.Board.{board-of, pending-size, pending-of, in-range};
 
-// Whether the bytes from `from` to `to` are all zero.
+// Whether the bytes from `from` to `to` are all zero. There is no way out of the loop, so that many bytes are looked at together.
 fn zero_between(table: &[u8], from: usize, to: usize) -> bool
     requires { ⌜ (from ≤ to) × (to ≤ length (now table)) ⌝ }
     ensures { λ r. ⌜ r ≡ all-zero (slice from to (now (table .entry))) ⌝ }
 {
+    let mut ok = true;
     let mut i = from;
     while i < to {
-        if table[i] != 0 {
-            return false;
-        }
+        ok = ok & (table[i] == 0);
         i += 1;
     }
-    true
+    ok
 }
 
-// Whether the first `used` records are a table: within the capacity, ids strictly rising, and zeros up to the capacity.
-fn judge_table(table: &[u8], size: usize, most: usize, used: usize) -> bool
+// Whether there is room for the first `used` records, with zeros behind them up to the capacity.
+fn room_and_zeros(table: &[u8], size: usize, most: usize, used: usize) -> bool
     requires { ⌜ 32 ≤ size ⌝ }
-    ensures { λ r. ⌜ r ≡ sound-table size most used (now (table .entry)) ⌝ }
+    ensures { λ r. ⌜ r ≡ (leb used (capacity size most (now (table .entry))) && all-zero (slice (used * size) (capacity size most (now (table .entry)) * size) (now (table .entry)))) ⌝ }
 {
     let cap = table::capacity(table, size, most);
     if cap < used {
         return false;
     }
-    if ids::ids_rise(table, size, used) {
-        zero_between(table, used * size, cap * size)
-    } else {
-        false
-    }
+    zero_between(table, used * size, cap * size)
 }
 
 // Whether pending record number `i` has a bucket that there is, and a resolved-through not above the last column.
@@ -73,13 +71,43 @@ pub fn in_range(table: &[u8], size: usize, used: usize) -> bool
     true
 }
 
+// Whether the ids of the first `used` pending records rise strictly, and the fields of each are in range: one pass, as `ids_rise` and `in_range` are two.
+fn records_sound(table: &[u8], size: usize, used: usize) -> bool
+    requires { ⌜ (pending-size ≤ size) × (used * size ≤ length (now table)) ⌝ }
+    ensures { λ r. ⌜ r ≡ (rising (map id-of (records size used (now (table .entry)))) && every in-range (map pending-of (records size used (now (table .entry))))) ⌝ }
+{
+    if used == 0 {
+        return true;
+    }
+    if !one_in_range(table, size, used, 0) {
+        return false;
+    }
+    let mut last = mem::u32_be(table, 0);
+    let mut i = 1;
+    while i < used {
+        let at = i * size;
+        let next = mem::u32_be(table, at);
+        if next <= last {
+            if !ids::is_below(table, at - size, at) {
+                return false;
+            }
+        }
+        if !one_in_range(table, size, used, i) {
+            return false;
+        }
+        last = next;
+        i += 1;
+    }
+    true
+}
+
 // Whether a pending table is sound.
 pub fn judge_pending(table: &[u8], used: usize, on: Horizon) -> bool
     ensures { λ r. ⌜ r ≡ sound-pending (board-of on) used (now (table .entry)) ⌝ }
 {
     let size = boards::record_size(on);
-    if judge_table(table, size, MAX_PENDING_ENTRIES, used) {
-        return in_range(table, size, used);
+    if room_and_zeros(table, size, MAX_PENDING_ENTRIES, used) {
+        return records_sound(table, size, used);
     }
     false
 }
@@ -88,5 +116,8 @@ pub fn judge_pending(table: &[u8], used: usize, on: Horizon) -> bool
 pub(crate) fn judge_confirmed(table: &[u8], used: usize) -> bool
     ensures { λ r. ⌜ r ≡ sound-confirmed used (now (table .entry)) ⌝ }
 {
-    judge_table(table, CONFIRMED_SIZE, MAX_CONFIRMED_RECORDS, used)
+    if room_and_zeros(table, CONFIRMED_SIZE, MAX_CONFIRMED_RECORDS, used) {
+        return ids::ids_rise(table, CONFIRMED_SIZE, used);
+    }
+    false
 }
