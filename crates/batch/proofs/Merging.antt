@@ -11,7 +11,7 @@ use Rattle.rules.specs.Board.{Pending, Confirmed}
 use Rattle.rules.specs.Estimator.{is-pending, holds}
 use Rattle.rules.proofs.All.{All, none, more, all-map}
 use Rattle.rules.proofs.Ids.{Up, end, step, same-eq, up-keep, up-insert}
-use Rattle.batch.specs.Batch.{at-height, is-confirmed, raised, fresh-of, merged}
+use Rattle.batch.specs.Batch.{at-height, is-confirmed, lifted, raised, fresh-of, merged}
 use Rattle.batch.proofs.Rising.{above-absent}
 use Rattle.batch.proofs.Keeping.{any-ext, any-map, any-and, any-insert, has-kept}
 
@@ -20,7 +20,7 @@ use Rattle.batch.proofs.Keeping.{any-ext, any-map, any-and, any-insert,
 merged-any : (p : Confirmed → Bool) (ns cs : List Confirmed) → any p (merged (λ c. c .id) ns cs) ≡ (any p ns || any p cs)
 unfolding merged any
 merged-any p [] cs = refl
-merged-any p (n ∷ ns) cs = any-insert p (λ x y. below (x .id) (y .id)) n (merged (λ c. c .id) ns cs) ∙ ap (λ (t : Bool). p n || t) (merged-any p ns cs) ∙ sym (or-assoc (p n) (any p ns) (any p cs))
+merged-any p (n ∷ ns) cs = any-insert p _ n (merged (λ c. c .id) ns cs) ∙ ap (λ (t : Bool). p n || t) (merged-any p ns cs) ∙ sym (or-assoc (p n) (any p ns) (any p cs))
 
 module _ (B : ℕ) (j : Id) (h : ℕ) where
   holds-new : (rs : List Pending) → holds j h (map (at-height B) rs) ≡ (is-pending j rs && eqb B h)
@@ -29,16 +29,13 @@ module _ (B : ℕ) (j : Id) (h : ℕ) where
 
   pub holds-raised : (gone : List Pending) (cs : List Confirmed) → holds j h (raised B gone cs) ≡ cond (is-pending j gone) (is-confirmed j cs && eqb B h) (holds j h cs)
   unfolding holds raised is-confirmed
-  holds-raised gone cs = any-map new (λ c. same (c .id) j && eqb (c .height) h) cs ∙ any-ext _ (λ c. same (c .id) j && cond (is-pending j gone) (eqb B h) (eqb (c .height) h)) one cs ∙ out (is-pending j gone)
+  holds-raised gone cs = any-map _ (λ c. same (c .id) j && eqb (c .height) h) cs ∙ any-ext _ (λ c. same (c .id) j && cond (is-pending j gone) (eqb B h) (eqb (c .height) h)) one cs ∙ out (is-pending j gone)
     where
-      new : Confirmed → Confirmed
-      new c = cond (is-pending (c .id) gone) (record { id = c .id; height = B }) c
-
-      one : (c : Confirmed) → (same (new c .id) j && eqb (new c .height) h) ≡ (same (c .id) j && cond (is-pending j gone) (eqb B h) (eqb (c .height) h))
+      one : (c : Confirmed) → (same (lifted B (is-pending (c .id) gone) c .id) j && eqb (lifted B (is-pending (c .id) gone) c .height) h) ≡ (same (c .id) j && cond (is-pending j gone) (eqb B h) (eqb (c .height) h))
       one c = go (same (c .id) j) refl (is-pending (c .id) gone) refl
         where
           go : (t : Bool) → same (c .id) j ≡ t → (u : Bool) → is-pending (c .id) gone ≡ u
-              → (same (cond u (record { id = c .id; height = B }) c .id) j && eqb (cond u (record { id = c .id; height = B }) c .height) h) ≡ (t && cond (is-pending j gone) (eqb B h) (eqb (c .height) h))
+              → (same (lifted B u c .id) j && eqb (lifted B u c .height) h) ≡ (t && cond (is-pending j gone) (eqb B h) (eqb (c .height) h))
           go true e true f = rw (e, sym (ap (λ (i : Id). is-pending i gone) (same-eq (c .id) j e)) ∙ f)
           go true e false f = rw (e, sym (ap (λ (i : Id). is-pending i gone) (same-eq (c .id) j e)) ∙ f)
           go false e true f = rw e
@@ -93,7 +90,7 @@ pub raised-confirmed : (B : ℕ) (gone : List Pending) (i : Id) (cs : List Confi
 unfolding is-confirmed raised
 raised-confirmed B gone i cs = any-map _ (λ c. same (c .id) i) cs ∙ any-ext _ (λ c. same (c .id) i) (λ c. one c (is-pending (c .id) gone)) cs
   where
-    one : (c : Confirmed) (t : Bool) → same (cond t (record { id = c .id; height = B }) c .id) i ≡ same (c .id) i
+    one : (c : Confirmed) (t : Bool) → same (lifted B t c .id) i ≡ same (c .id) i
     one c true = refl
     one c false = refl
 
@@ -101,7 +98,7 @@ pub up-raised : (B : ℕ) (gone : List Pending) {cs : List Confirmed} → Up (λ
 unfolding raised
 up-raised B gone u = up-same (λ c. c .id) (λ c. c .id) _ (λ c. kept c (is-pending (c .id) gone)) u
   where
-    kept : (c : Confirmed) (t : Bool) → cond t (record { id = c .id; height = B }) c .id ≡ c .id
+    kept : (c : Confirmed) (t : Bool) → lifted B t c .id ≡ c .id
     kept c true = refl
     kept c false = refl
 

@@ -9,7 +9,7 @@ use Rattle.rules.specs.Ids.{Id, same}
 use Rattle.rules.specs.Board.{Pending, Confirmed}
 use Rattle.rules.specs.Estimator.{is-pending, become, holds}
 use Rattle.rules.proofs.Ids.{Up, same-eq, up-placed}
-use Rattle.batch.specs.Batch.{at-height, is-confirmed, renewed, raised}
+use Rattle.batch.specs.Batch.{at-height, is-confirmed, lifted, renewed, raised}
 use Rattle.batch.proofs.Heights.{held-confirmed, not-held, holds-only, holds-become, known-by-holding}
 use Rattle.batch.proofs.Merging.{holds-raised, up-raised}
 
@@ -20,11 +20,8 @@ module _ (B : ℕ) where
   raised-next r rs [] = refl
   raised-next r rs (c ∷ cs) = ap₂ {C = List Confirmed} (λ x xs. x ∷ xs) (go (same (r .id) (c .id)) (is-pending (c .id) rs) refl) (raised-next r rs cs)
     where
-      new : Confirmed
-      new = record { id = c .id; height = B }
-
       go : (s t : Bool) → any (λ q. same (q .id) (c .id)) rs ≡ t
-          → cond (s || t) new c ≡ cond (any (λ q. same (q .id) (cond (s || false) new c .id)) rs) (record { id = cond (s || false) new c .id; height = B }) (cond (s || false) new c)
+          → lifted B (s || t) c ≡ lifted B (any (λ q. same (q .id) (lifted B (s || false) c .id)) rs) (lifted B (s || false) c)
       go true true e = rw e
       go true false e = rw e
       go false true e = rw e
@@ -34,7 +31,7 @@ module _ (B : ℕ) where
   pub renewed-is : (r : Pending) (cs : List Confirmed) → renewed B (r .id) cs ≡ raised B (r ∷ []) cs
   unfolding renewed raised is-pending any
   renewed-is r [] = refl
-  renewed-is r (c ∷ cs) = ap₂ {C = List Confirmed} (λ x xs. x ∷ xs) (ap (λ (t : Bool). cond t (record { id = c .id; height = B }) c) (sym (or-false (same (r .id) (c .id))))) (renewed-is r cs)
+  renewed-is r (c ∷ cs) = ap₂ {C = List Confirmed} (λ x xs. x ∷ xs) (ap (λ (t : Bool). lifted B t c) (sym (or-false (same (r .id) (c .id))))) (renewed-is r cs)
 
   module _ (r : Pending) {cs : List Confirmed} (u : Up (λ c. c .id) cs) where
     holds-one : (j : Id) (h : ℕ) → holds j h (raised B (r ∷ []) cs) ≡ cond (same (r .id) j) (is-confirmed (r .id) cs && eqb B h) (holds j h cs)

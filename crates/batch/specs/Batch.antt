@@ -34,13 +34,17 @@ at-height B r = record { id = r .id; height = B }
 unfoldable pub is-confirmed : Id → List Confirmed → Bool
 is-confirmed i cs = any (λ c. same (c .id) i) cs
 
--- the height of the confirmed record of i, if there is one, becomes B
-unfoldable pub renewed : ℕ → Id → List Confirmed → List Confirmed
-renewed B i cs = map (λ c. cond (same i (c .id)) (record { id = c .id; height = B }) c) cs
+-- the height becomes B if it is one of those that are asked for
+abbrev pub lifted : ℕ → Bool → Confirmed → Confirmed
+lifted B t c = cond t (record { id = c .id; height = B }) c
 
--- the height becomes B where the id is one of those that go
+-- the confirmed record of i, if there is one, gets B
+unfoldable pub renewed : ℕ → Id → List Confirmed → List Confirmed
+renewed B i cs = map (λ c. lifted B (same i (c .id)) c) cs
+
+-- the confirmed records of those that go get B
 unfoldable pub raised : ℕ → List Pending → List Confirmed → List Confirmed
-raised B gone cs = map (λ c. cond (is-pending (c .id) gone) (record { id = c .id; height = B }) c) cs
+raised B gone cs = map (λ c. lifted B (is-pending (c .id) gone) c) cs
 
 -- of those that go, the ones that have no confirmed record
 unfoldable pub fresh-of : List Pending → List Confirmed → List Pending
