@@ -6,7 +6,6 @@ use mathlib.Core.List.{List, [], _∷_}
 use mathlib.Core.Option.{Option, none, some}
 use Prim.Native.Nat.{ℕ, suc, _+_, _≤_}
 use native.Mathlib.Omega.{arith}
-use lib.Dec.{eqb}
 use lib.ListN.{length}
 use Rattle.kinds.specs.declared.Last.{Last}
 use Rattle.rules.specs.Lists.{bit, count, any}
@@ -19,31 +18,20 @@ use Rattle.rules.proofs.Placing.{any-dropped, any-ordered}
 use Rattle.rules.proofs.Room.{length-keep, length-insert}
 use Rattle.rules.proofs.Well.{Well, well-skip}
 use Rattle.batch.specs.Needed.{listed, stays, lasts, still-held, adds-one, needed}
+use Rattle.batch.specs.Batch.{is-confirmed}
 use Rattle.lists.proofs.Counting.{count-ext, count-split, count-keep, count-false, length-kept, length-left, any-keep}
 use Rattle.batch.proofs.Rising.{count-one}
+use Rattle.batch.proofs.Heights.{held-confirmed}
 use Rattle.batch.proofs.Skipped.{skipped-recent, skipped-pending}
 
 -- ---- one listed id
 
--- there is a confirmed record of i
-abbrev confirmed-in : List Confirmed → Id → Bool
-confirmed-in cs i = any (λ c. same (c .id) i) cs
-
 -- what confirming i makes of two tables: its pending record goes, it has a confirmed record more if it was pending and had none, and others have one as before
 record Confirming (i : Id) (s t : Estimator) : Type 0 where
   pending : t .pending ≡ dropped (λ r. r .id) i (s .pending)
-  recent : length (t .recent) ≡ length (s .recent) + bit (not (confirmed-in (s .recent) i) && is-pending i (s .pending))
-  others : (j : Id) → same i j ≡ false → confirmed-in (t .recent) j ≡ confirmed-in (s .recent) j
+  recent : length (t .recent) ≡ length (s .recent) + bit (not (is-confirmed i (s .recent)) && is-pending i (s .pending))
+  others : (j : Id) → same i j ≡ false → is-confirmed j (t .recent) ≡ is-confirmed j (s .recent)
   rises : Up (λ c. c .id) (t .recent)
-
-held-confirmed : (i : Id) (B : ℕ) (cs : List Confirmed) → holds i B cs ≡ true → confirmed-in cs i ≡ true
-unfolding holds any
-held-confirmed i B [] h = h
-held-confirmed i B (c ∷ cs) h = go (same (c .id) i) h (held-confirmed i B cs)
-  where
-    go : (t : Bool) → ((t && eqb (c .height) B) || holds i B cs) ≡ true → (holds i B cs ≡ true → confirmed-in cs i ≡ true) → (t || confirmed-in cs i) ≡ true
-    go true h f = refl
-    go false h f = f h
 
 -- there is something
 abbrev found : Option Pending → Bool
@@ -60,7 +48,7 @@ pending-found i (r ∷ rs) = go (same (r .id) i) (pending-found i rs)
     go false h = h
 
 confirming : (k : Board) (B : ℕ) (i : Id) (s : Estimator) → Up (λ c. c .id) (s .recent) → Confirming i s (confirm k B i s)
-unfolding confirm record-confirmation tx-left is-pending placed dropped
+unfolding confirm record-confirmation tx-left is-pending placed dropped is-confirmed
 confirming k B i s u = go (holds i B (s .recent)) refl (find i (s .pending)) (pending-found i (s .pending))
   where
     new : Confirmed
@@ -73,7 +61,7 @@ confirming k B i s u = go (holds i B (s .recent)) refl (find i (s .pending)) (pe
     more : length (placed (λ c. c .id) new (s .recent)) ≡ suc (length (dropped (λ c. c .id) i (s .recent)))
     more = length-insert (λ x y. below (x .id) (y .id)) new (dropped (λ c. c .id) i (s .recent))
 
-    one : count (λ c. same (c .id) i) (s .recent) ≡ bit (confirmed-in (s .recent) i)
+    one : count (λ c. same (c .id) i) (s .recent) ≡ bit (is-confirmed i (s .recent))
     one = count-one (λ c. c .id) i u
 
     left : length (dropped (λ c. c .id) i (s .recent)) + count (λ c. same (c .id) i) (s .recent) ≡ length (s .recent)
@@ -97,7 +85,7 @@ confirming k B i s u = go (holds i B (s .recent)) refl (find i (s .pending)) (pe
     go false e (some r) g =
         record {
           pending = refl;
-          recent = rw g (omega (arith, more, one, left, bits (confirmed-in (s .recent) i)));
+          recent = rw g (omega (arith, more, one, left, bits (is-confirmed i (s .recent))));
           others = λ j d. any-ordered (λ c. c .id) new j (dropped (λ c. c .id) i (s .recent)) d ∙ any-dropped (λ c. c .id) i j (s .recent) d;
           rises = up-placed (λ c. c .id) new u;
         }
@@ -106,7 +94,7 @@ confirming k B i s u = go (holds i B (s .recent)) refl (find i (s .pending)) (pe
 
 -- a record that is listed, and has no confirmed record
 abbrev is-new : List Confirmed → List Id → Pending → Bool
-is-new cs ids r = listed ids (r .id) && not (confirmed-in cs (r .id))
+is-new cs ids r = listed ids (r .id) && not (is-confirmed (r .id) cs)
 
 module _ (i : Id) (ids : List Id) (s t : Estimator) (u : Up (λ r. r .id) (s .pending)) (c : Confirming i s t) where
   -- the records of other ids that are new
@@ -124,23 +112,23 @@ module _ (i : Id) (ids : List Id) (s t : Estimator) (u : Up (λ r. r .id) (s .pe
       each r true e = refl
       each r false e = ap (λ (b : Bool). listed ids (r .id) && not b) (c .others (r .id) (same-sym i (r .id) ∙ e))
 
-  before : count (is-new (s .recent) (i ∷ ids)) (s .pending) ≡ bit (not (confirmed-in (s .recent) i) && is-pending i (s .pending)) + count other (s .pending)
+  before : count (is-new (s .recent) (i ∷ ids)) (s .pending) ≡ bit (not (is-confirmed i (s .recent)) && is-pending i (s .pending)) + count other (s .pending)
   unfolding listed any other is-pending
   before =
       count-split (is-new (s .recent) (i ∷ ids)) (λ r. same (r .id) i) (s .pending)
       ∙ ap₂ (λ (m n : ℕ). m + n)
-      (count-ext _ (λ r. not (confirmed-in (s .recent) i) && same (r .id) i) (λ r. own r (same (r .id) i) refl) (s .pending) ∙ its (not (confirmed-in (s .recent) i)))
+      (count-ext _ (λ r. not (is-confirmed i (s .recent)) && same (r .id) i) (λ r. own r (same (r .id) i) refl) (s .pending) ∙ its (not (is-confirmed i (s .recent))))
       (count-ext _ other (λ r. each r (same (r .id) i)) (s .pending))
     where
-      own : (r : Pending) (b : Bool) → same (r .id) i ≡ b → (b && ((b || listed ids (r .id)) && not (confirmed-in (s .recent) (r .id)))) ≡ (not (confirmed-in (s .recent) i) && b)
-      own r true e = ap (λ (j : Id). not (confirmed-in (s .recent) j)) (same-eq (r .id) i e) ∙ sym (and-true (not (confirmed-in (s .recent) i)))
-      own r false e = sym (and-false (not (confirmed-in (s .recent) i)))
+      own : (r : Pending) (b : Bool) → same (r .id) i ≡ b → (b && ((b || listed ids (r .id)) && not (is-confirmed (r .id) (s .recent)))) ≡ (not (is-confirmed i (s .recent)) && b)
+      own r true e = ap (λ (j : Id). not (is-confirmed j (s .recent))) (same-eq (r .id) i e) ∙ sym (and-true (not (is-confirmed i (s .recent))))
+      own r false e = sym (and-false (not (is-confirmed i (s .recent))))
 
       its : (b : Bool) → count (λ r. b && same (r .id) i) (s .pending) ≡ bit (b && any (λ r. same (r .id) i) (s .pending))
       its true = count-one (λ r. r .id) i u
       its false = count-false (s .pending)
 
-      each : (r : Pending) (b : Bool) → (not b && ((b || listed ids (r .id)) && not (confirmed-in (s .recent) (r .id)))) ≡ (not b && is-new (s .recent) ids r)
+      each : (r : Pending) (b : Bool) → (not b && ((b || listed ids (r .id)) && not (is-confirmed (r .id) (s .recent)))) ≡ (not b && is-new (s .recent) ids r)
       each r true = refl
       each r false = refl
 
@@ -163,9 +151,9 @@ module _ (k : Board) (ids : List Id) (B : ℕ) (e : Estimator) where
   abbrev skipped : Estimator
   skipped = skip-heights k (e .last) B e
 
-  held-is : (i : Id) → confirmed-in (skipped .recent) i ≡ still-held (e .last) B (e .recent) i
-  unfolding still-held
-  held-is i = ap (λ (cs : List Confirmed). confirmed-in cs i) (skipped-recent k (e .last) B e) ∙ any-keep (λ c. same (c .id) i) (stays (e .last) B) (e .recent)
+  held-is : (i : Id) → is-confirmed i (skipped .recent) ≡ still-held (e .last) B (e .recent) i
+  unfolding still-held is-confirmed
+  held-is i = ap (λ (cs : List Confirmed). is-confirmed i cs) (skipped-recent k (e .last) B e) ∙ any-keep (λ c. same (c .id) i) (stays (e .last) B) (e .recent)
 
   pub needed-is : Well e → held-once-listed k ids B e ≡ needed k ids B (e .last) (e .pending) (e .recent)
   unfolding held-once-listed needed adds-one
@@ -174,7 +162,7 @@ module _ (k : Board) (ids : List Id) (B : ℕ) (e : Estimator) where
       length-all k B ids skipped (v .pending-up) (v .recent-up)
       ∙ ap₂ (λ (m n : ℕ). m + n)
       (ap length (skipped-recent k (e .last) B e) ∙ length-kept (stays (e .last) B) (e .recent))
-      (skipped-pending k (e .last) B e (λ i. listed ids i && not (confirmed-in (skipped .recent) i)) ∙ count-ext _ (adds-one k ids B (e .last) (e .recent)) each (e .pending))
+      (skipped-pending k (e .last) B e (λ i. listed ids i && not (is-confirmed i (skipped .recent))) ∙ count-ext _ (adds-one k ids B (e .last) (e .recent)) each (e .pending))
     where
       swap : (a b c : Bool) → (a && (b && c)) ≡ (b && (a && c))
       swap true b c = refl

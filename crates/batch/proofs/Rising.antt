@@ -1,20 +1,40 @@
--- Records whose ids rise: an id has one of them or none. Assumes nothing.
+-- Records whose ids rise: an id has one of them or none, and those before a record are below it. Assumes nothing.
 use mathlib.Core.Path.{_≡_, refl, sym, ap, _∙_}
 use mathlib.Core.Bool.{Bool, true, false, _||_}
 use mathlib.Core.List.{List}
-use Prim.Native.Nat.{_+_}
+use Prim.Native.Nat.{ℕ, zero, suc, _+_, _<_}
+use native.Mathlib.Nat.{not-suc-le-zero, le-of-suc-le-suc}
 use native.Mathlib.Omega.{arith}
+use lib.ListN.{length, getD, take}
 use Rattle.rules.specs.Lists.{bit, count, any}
 use Rattle.rules.specs.Ids.{Id, same, below}
 use Rattle.rules.proofs.All.{All, none, more}
 use Rattle.rules.proofs.Ids.{Up, end, step, same-eq, same-sym, below-apart}
 
+-- what holds of each holds of number n
+pub all-at : {A : Type 0} {P : A → Type 0} {xs : List A} (n : ℕ) (d : A) → All P xs → n < length xs → P (getD xs n d)
+all-at n d none h = absurd (not-suc-le-zero h)
+all-at zero d (more p ps) h = p
+all-at (suc n) d (more p ps) h = all-at n d ps (le-of-suc-le-suc h)
+
+-- and of the first n
+all-take : {A : Type 0} {P : A → Type 0} (n : ℕ) {xs : List A} → All P xs → All P (take n xs)
+all-take zero h = none
+all-take (suc n) none = none
+all-take (suc n) (more h hs) = more h (all-take n hs)
+
 module _ {A : Type 0} (id : A → Id) where
-  -- none of an id that is below all
-  pub none-above : (i : Id) {rs : List A} → All (λ q. below i (id q) ≡ true) rs → count (λ q. same (id q) i) rs ≡ 0
-  unfolding count
-  none-above i none = refl
-  none-above i (more {a} h hs) = rw (same-sym (id a) i, below-apart i (id a) h) (omega (arith, none-above i hs))
+  -- the first n rise
+  pub up-take : (n : ℕ) {rs : List A} → Up id rs → Up id (take n rs)
+  up-take zero u = end
+  up-take (suc n) end = end
+  up-take (suc n) (step a u) = step (all-take n a) (up-take n u)
+
+  -- an id is none of those above it
+  pub above-absent : (i : Id) {rs : List A} → All (λ q. below i (id q) ≡ true) rs → any (λ q. same (id q) i) rs ≡ false
+  unfolding any
+  above-absent i none = refl
+  above-absent i (more {a} h hs) = rw (same-sym (id a) i, below-apart i (id a) h) (above-absent i hs)
 
   -- an id has one record or none
   pub count-one : (i : Id) {rs : List A} → Up id rs → count (λ q. same (id q) i) rs ≡ bit (any (λ q. same (id q) i) rs)
@@ -23,5 +43,13 @@ module _ {A : Type 0} (id : A → Id) where
   count-one i (step {r} {rs} a u) = go (same (id r) i) refl (count-one i u)
     where
       go : (t : Bool) → same (id r) i ≡ t → count (λ q. same (id q) i) rs ≡ bit (any (λ q. same (id q) i) rs) → bit t + count (λ q. same (id q) i) rs ≡ bit (t || any (λ q. same (id q) i) rs)
-      go true e h = omega (arith, ap (λ (j : Id). count (λ q. same (id q) j) rs) (sym (same-eq (id r) i e)) ∙ none-above (id r) a)
+      go true e h =
+          let no : bit (any (λ q. same (id q) i) rs) ≡ 0 = ap bit (ap (λ (j : Id). any (λ q. same (id q) j) rs) (sym (same-eq (id r) i e)) ∙ above-absent (id r) a) in
+          omega arith
       go false e h = omega arith
+
+  -- those before record number n are below it
+  pub under-at : (n : ℕ) (d : A) {rs : List A} → Up id rs → n < length rs → All (λ q. below (id q) (id (getD rs n d)) ≡ true) (take n rs)
+  under-at n d end h = absurd (not-suc-le-zero h)
+  under-at zero d (step a u) h = none
+  under-at (suc n) d (step a u) h = more (all-at n d a (le-of-suc-le-suc h)) (under-at n d u (le-of-suc-le-suc h))

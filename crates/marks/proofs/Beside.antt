@@ -1,23 +1,15 @@
 -- Marks beside a table: an id that has no record marks nothing, and one that has a record marks it by one store, since no other record has the id. Assumes nothing.
 use mathlib.Core.Path.{_≡_, refl, ap, ap₂, _∙_}
-use mathlib.Core.Bool.{Bool, true, false, _||_, or-true, or-false}
+use mathlib.Core.Bool.{Bool, true, false, _||_, true≢false, or-true, or-false}
 use mathlib.Core.List.{List, [], _∷_}
-use Prim.Native.Nat.{ℕ, zero, suc, _+_, _<_}
+use Prim.Native.Nat.{ℕ, zero, suc, _<_}
 use native.Mathlib.Nat.{not-suc-le-zero, le-of-suc-le-suc}
-use native.Mathlib.Omega.{arith}
 use lib.ListN.{length, getD, set, replicate}
-use Rattle.rules.specs.Lists.{bit, count}
+use Rattle.rules.specs.Lists.{bit, any}
 use Rattle.rules.specs.Ids.{Id, same}
-use Rattle.rules.proofs.All.{All, none, more}
 use Rattle.rules.proofs.Ids.{Up, end, step, same-refl, below-apart}
-use Rattle.batch.proofs.Rising.{none-above}
+use Rattle.batch.proofs.Rising.{all-at, above-absent}
 use Rattle.marks.specs.Marks.{beside}
-
--- what holds of each holds of number n
-all-at : {A : Type 0} {P : A → Type 0} {xs : List A} (n : ℕ) (d : A) → All P xs → n < length xs → P (getD xs n d)
-all-at n d none h = absurd (not-suc-le-zero h)
-all-at zero d (more p ps) h = p
-all-at (suc n) d (more p ps) h = all-at n d ps (le-of-suc-le-suc h)
 
 module _ {A : Type 0} (id : A → Id) where
   pub beside-none : (rs : List A) → beside id (λ j. false) rs ≡ replicate (length rs) 0
@@ -26,22 +18,22 @@ module _ {A : Type 0} (id : A → Id) where
   beside-none (r ∷ rs) = ap (λ (l : List ℕ). 0 ∷ l) (beside-none rs)
 
   -- the next listed id, i, has no record
-  pub beside-miss : (mark : Id → Bool) (i : Id) (rs : List A) → count (λ r. same (id r) i) rs ≡ 0 → beside id (λ j. mark j || same j i) rs ≡ beside id mark rs
-  unfolding beside count
+  pub beside-miss : (mark : Id → Bool) (i : Id) (rs : List A) → any (λ r. same (id r) i) rs ≡ false → beside id (λ j. mark j || same j i) rs ≡ beside id mark rs
+  unfolding beside any
   beside-miss mark i [] e = refl
   beside-miss mark i (r ∷ rs) e = go (same (id r) i) e (beside-miss mark i rs)
     where
-      go : (t : Bool) → bit t + count (λ r. same (id r) i) rs ≡ 0 → (count (λ r. same (id r) i) rs ≡ 0 → beside id (λ j. mark j || same j i) rs ≡ beside id mark rs)
+      go : (t : Bool) → (t || any (λ r. same (id r) i) rs) ≡ false → (any (λ r. same (id r) i) rs ≡ false → beside id (λ j. mark j || same j i) rs ≡ beside id mark rs)
           → _≡_ {A = List ℕ} (bit (mark (id r) || t) ∷ beside id (λ j. mark j || same j i) rs) (bit (mark (id r)) ∷ beside id mark rs)
-      go true e f = absurd (omega arith)
-      go false e f = ap₂ (λ (t : Bool) (l : List ℕ). bit t ∷ l) (or-false (mark (id r))) (f (omega arith))
+      go true e f = absurd (true≢false e)
+      go false e f = ap₂ (λ (t : Bool) (l : List ℕ). bit t ∷ l) (or-false (mark (id r))) (f e)
 
   -- it is the id of record number n
   pub beside-hit : (mark : Id → Bool) (n : ℕ) (d : A) {rs : List A} → Up id rs → n < length rs → beside id (λ j. mark j || same j (id (getD rs n d))) rs ≡ set (beside id mark rs) n 1
   unfolding beside
   beside-hit mark n d end h = absurd (not-suc-le-zero h)
   beside-hit mark zero d (step {r} {rs} a u) h =
-      ap₂ (λ (t : Bool) (l : List ℕ). bit t ∷ l) (ap (λ (t : Bool). mark (id r) || t) (same-refl (id r)) ∙ or-true (mark (id r))) (beside-miss mark (id r) rs (none-above id (id r) a))
+      ap₂ (λ (t : Bool) (l : List ℕ). bit t ∷ l) (ap (λ (t : Bool). mark (id r) || t) (same-refl (id r)) ∙ or-true (mark (id r))) (beside-miss mark (id r) rs (above-absent id (id r) a))
   beside-hit mark (suc n) d (step {r} {rs} a u) h =
       let l : n < length rs = le-of-suc-le-suc h in
       let apart : same (id r) (id (getD rs n d)) ≡ false = below-apart (id r) (id (getD rs n d)) (all-at n d a l) in

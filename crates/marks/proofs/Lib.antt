@@ -4,3 +4,5 @@
 pub mod Beside
 -- the listed ids, one after the other
 pub mod Noting
+-- the records whose mark is 0
+pub mod Dropping

@@ -7,7 +7,7 @@ use Prim.Native.Nat.{ℕ, _+_, _-_, _≤_, _<_}
 use native.Mathlib.Omega.{arith}
 use lib.ListN.{length, getD, take, drop, replicate, length-map, take-append-drop, List·getD-map}
 use lib.Seq.{set-append-left}
-use Rattle.rules.specs.Lists.{bit, count, any}
+use Rattle.rules.specs.Lists.{any}
 use Rattle.rules.specs.Ids.{Id, same, rising}
 use Rattle.rules.specs.Records.{records, id-of}
 use Rattle.rules.specs.Calls.{ids-of}
@@ -20,7 +20,6 @@ use Rattle.ids.proofs.Search.{at-told}
 use Rattle.table.proofs.View.{gap-any}
 use Rattle.batch.specs.Needed.{listed}
 use Rattle.batch.proofs.Listing.{next-id, ids-more, ids-none}
-use Rattle.batch.proofs.Rising.{count-one}
 use Rattle.marks.specs.Marks.{beside, noted}
 use Rattle.marks.proofs.Beside.{beside-none, beside-miss, beside-hit}
 
@@ -46,8 +45,7 @@ noted-beside mark i rs rest up = go (find-in i (map id-of rs)) refl
         ∙ ap (λ (l : List ℕ). l ++ rest)
         (sym (beside-hit id-of mark n [] (up-of id-of rs up) h) ∙ ap (λ (a : Id). beside id-of (λ j. mark j || same j a) rs) its)
     go (Gap n) e =
-        let none : count (λ r. same (id-of r) i) rs ≡ 0 = count-one id-of i (up-of id-of rs up) ∙ ap bit (gap-any id-of i 0 n rs up e) in
-        ap (λ (l : List ℕ). l ++ rest) (sym (beside-miss id-of mark i rs none))
+        ap (λ (l : List ℕ). l ++ rest) (sym (beside-miss id-of mark i rs (gap-any id-of i 0 n rs up e)))
 
 -- ---- all of them
 
