@@ -12,7 +12,6 @@ ghost use Rattle.rules.specs.Lists.{keep};
 ghost use Rattle.rules.specs.Counts.{columns};
 ghost use Rattle.rules.specs.Records.{records, laid};
 ghost use Rattle.rules.specs.Board.{pending-size, confirmed-size, confirmed-of};
-ghost use Rattle.table.specs.Edit.{Moved};
 ghost use Rattle.expiry.specs.Fields.{in-bound, passing, waiting};
 
 // Which numbers pass.
@@ -39,21 +38,6 @@ fn passes(table: &[u8], size: usize, i: usize, off: usize, b: Bound) -> bool
     within(mem::u32_le(table, i * size + off), b)
 }
 
-// One turn of `keep_passing`: where record `i` stays it becomes record `k`, moved only if it is not that already, and the answer is the next `k`.
-fn keep_one(table: &mut [u8], size: usize, k: usize, i: usize, off: usize, b: Bound) -> usize
-    requires { ⌜ (off + 4 ≤ size) × ((k ≤ i) × (i * size + size ≤ length (now table))) ⌝ }
-    ensures { λ r. ⌜ Moved (passing off b) size k i (now (table .entry)) (now (table .exit)) r ⌝ }
-{
-    if passes(table, size, i, off, b) {
-        if k < i {
-            mem::shift_down(table, k * size, i * size - k * size, size);
-        }
-        k + 1
-    } else {
-        k
-    }
-}
-
 // Keeps the records whose field is within the bound, in order, and zeroes the places that are left. The answer is how many stay.
 fn keep_passing(table: &mut [u8], size: usize, used: usize, off: usize, b: Bound) -> usize
     requires { ⌜ (off + 4 ≤ size) × (used * size ≤ length (now table)) ⌝ }
@@ -63,7 +47,8 @@ fn keep_passing(table: &mut [u8], size: usize, used: usize, off: usize, b: Bound
     let mut k = 0;
     let mut i = 0;
     while i < used {
-        k = keep_one(table, size, k, i, off, b);
+        let stays = passes(table, size, i, off, b);
+        k = table::keep_record(table, size, k, i, stays);
         i += 1;
     }
     mem::zero(table, k * size, used * size);

@@ -4,14 +4,12 @@ use ids::find;
 ghost use mathlib.Core.Path.{_≡_};
 ghost use mathlib.Core.Bool.{true};
 ghost use mathlib.Core.List.{map, _++_};
-ghost use Prim.Native.Nat.{_+_, _*_, _≤_};
-ghost use lib.Dec.{eqb};
+ghost use Prim.Native.Nat.{_*_, _≤_};
 ghost use lib.ListN.{length, take, drop, replicate};
 ghost use Rattle.rules.specs.Ids.{rising};
 ghost use Rattle.rules.specs.Records.{records, id-of, laid};
 ghost use Rattle.rules.specs.Calls.{ids-of};
 ghost use Rattle.ids.specs.Search.{find-in};
-ghost use Rattle.table.specs.Edit.{Moved};
 ghost use Rattle.batch.specs.Needed.{listed};
 ghost use Rattle.batch.specs.Picked.{picked};
 ghost use Rattle.marks.specs.Marks.{beside, noted};
@@ -47,23 +45,6 @@ pub fn mark_listed(table: &[u8], size: usize, used: usize, ids: &[u8], marks: &m
     }
 }
 
-// One turn of `drop_marked`: where record `i` stays it becomes record `k`, and the answer is the next `k`.
-fn keep_one(table: &mut [u8], size: usize, k: usize, i: usize, mark: u8) -> usize
-    requires { ⌜ (32 ≤ size) × ((k ≤ i) × (i * size + size ≤ length (now table))) ⌝ }
-    ensures { λ r. ⌜ Moved (λ _. eqb mark 0) size k i (now (table .entry)) (now (table .exit)) r ⌝ }
-{
-    if mark == 0 {
-        if k < i {
-            mem::shift_down(table, k * size, i * size - k * size, size);
-            k + 1
-        } else {
-            k + 1
-        }
-    } else {
-        k
-    }
-}
-
 // Keeps the records whose mark is 0, in order, and zeroes the places that are left. The answer is how many stay.
 pub fn drop_marked(table: &mut [u8], size: usize, used: usize, marks: &[u8]) -> usize
     requires { ⌜ (32 ≤ size) × ((used * size ≤ length (now table)) × (used ≤ length (now marks))) ⌝ }
@@ -73,7 +54,7 @@ pub fn drop_marked(table: &mut [u8], size: usize, used: usize, marks: &[u8]) -> 
     let mut k = 0;
     let mut i = 0;
     while i < used {
-        k = keep_one(table, size, k, i, marks[i]);
+        k = table::keep_record(table, size, k, i, marks[i] == 0);
         i += 1;
     }
     mem::zero(table, k * size, used * size);

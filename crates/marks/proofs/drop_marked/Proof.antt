@@ -21,20 +21,20 @@ past s k h = mul-le-mul-right (s .args .size) h
 loop-holds : tie.Need-loop-holds Inv-loop μ-loop
 loop-holds c = dropping-none _ _ _ _
 
-shared-slice-read-keep-one : tie.Need-shared-slice-read-keep-one Inv-loop μ-loop
-shared-slice-read-keep-one c = omega (arith, c .before .before .before .before .before .before .pre .1 .1, c .before .before .loop-test .taken)
+shared-slice-read-keep-record : tie.Need-shared-slice-read-keep-record Inv-loop μ-loop
+shared-slice-read-keep-record c = omega (arith, c .before .before .before .before .before .before .pre .1 .1, c .before .before .loop-test .taken)
 
-keep-one-requires : tie.Need-keep-one-requires Inv-loop μ-loop
-keep-one-requires c κs =
+keep-record-requires : tie.Need-keep-record-requires Inv-loop μ-loop
+keep-record-requires c κs =
     let s = c .before .before .before .before .before .before in
     let g = c .before .before .before .loop in
-    (s .pre .0, (g .inv .k-le, omega (arith, record-end (s .args .size) (s .args .used) (g .i) (c .before .before .loop-test .taken), g .inv .len, s .pre .1 .0)))
+    (omega arith, (g .inv .k-le, omega (arith, record-end (s .args .size) (s .args .used) (g .i) (c .before .before .loop-test .taken), g .inv .len, s .pre .1 .0)))
 
 loop-again : tie.Need-loop-again Inv-loop μ-loop
 loop-again c =
     let s = c .before .before .before .before .before .before .before .before .before in
     let g = c .before .before .before .before .before .before .loop in
-    let m = c .before .before .keep-one in
+    let m = c .before .before .keep-record in
     dropping-more _ _ _ _ (g .k) (g .i) (m .result) (g .table) (m .last .0) (c .before .before .before .before .before .loop-test .taken) (s .pre .1 .1) (g .inv) (m .ensures) (m .kept .0)
 
 mul-zero : tie.Need-mul-zero Inv-loop μ-loop
@@ -59,4 +59,4 @@ returns c =
 
 pub drop-marked-spec : {M : Type 1} → statement M
 drop-marked-spec =
-    tie.close (tie.spec Inv-loop μ-loop loop-holds shared-slice-read-keep-one keep-one-requires (λ c. omega arith) (λ c. omega arith) loop-again mul-zero mul-zero-2 zero-requires same-length returns)
+    tie.close (tie.spec Inv-loop μ-loop loop-holds shared-slice-read-keep-record keep-record-requires (λ c. omega arith) (λ c. omega arith) loop-again mul-zero mul-zero-2 zero-requires same-length returns)
