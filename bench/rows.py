@@ -37,12 +37,10 @@ GOALS = [
 GROWTH = {
     "An enter, with the pending records": [f"enter-{pending}-7500" for pending in DOUBLED["pending"]],
     "A leave, with the pending records": [f"leave-{pending}-7500" for pending in DOUBLED["pending"]],
-    "An enter with 1,000 pending records, with the places of the table": [f"enter-1000-7500-lent-{places}" for places in DOUBLED["pending"]],
+    "An enter, 1,000 pending, with the places lent": [f"enter-1000-7500-lent-{places}" for places in DOUBLED["pending"]],
     "An empty block, with the pending records": [f"block-0-{pending}-75000" for pending in DOUBLED["pending"]],
     "An empty block, with the confirmed records": [f"block-0-10000-{confirmed}" for confirmed in DOUBLED["confirmed"]],
-    "An empty block with 1,000 confirmed records, with the places of the table": [
-        f"block-0-1000-1000-lent-{places}" for places in (25_000, 50_000, 100_000, 200_000)
-    ],
+    "An empty block, 1,000 confirmed, with the places lent": [f"block-0-1000-1000-lent-{places}" for places in (25_000, 50_000, 100_000, 200_000)],
     "A block, with the listed ids": [f"block-{listed}-10000-75000" for listed in DOUBLED["listed"]],
     "A block of 1,000, with the pending records": [f"block-1000-{pending}-75000" for pending in DOUBLED["pending"]],
     "A block of 3,000, with the confirmed records": [f"block-3000-10000-{confirmed}" for confirmed in DOUBLED["confirmed"]],

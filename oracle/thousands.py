@@ -17,7 +17,7 @@ RULES = {NARROW: NARROW_RULES, WIDE: WIDE_RULES}
 MOST_LENT = {NARROW: (440_100, 720_100), WIDE: (44_100, 72_100)}
 # pending and confirmed records to begin with; a script has room for as many, and for the file that has them once more
 SIZES = {NARROW: [(3_000, 4_000), (5_000, 1_000), (1_000, 7_000), (10_000, 200)], WIDE: [(1_000, 1_000), (1_002, 300), (300, 1_900)]}
-LISTED = 300, 1_000, 3_000, 4_096
+LISTED = 300, 1_000, 3_000, 3_000, 4_096
 ROOM = 1_400_000  # bytes for a file
 TURN = 12  # lines of one board at most before the other's
 
@@ -76,9 +76,10 @@ class Crowd:
         last, width = rng.choice([100, 200, 800_000, TOP - 40]), self.board.width
         spare = rng.choice([0, 40, 10_000])
         most = MOST_LENT[self.board]
-        self.lend(min(most[0], PENDING * (pending + spare)), min(most[1], RECENT * (recent + pending // 2 + spare)))
-        known = [self.any_id() for _ in range(max(pending, recent))]
-        waiting, done = (repeated(rng, known, number) for number in (pending, recent))
+        self.lend(min(most[0], PENDING * (pending + spare)), min(most[1], RECENT * (recent + rng.choice([pending, pending // 4]) + spare)))
+        known = [self.any_id() for _ in range(pending + recent)]
+        apart = rng.choice([0, pending // 2, pending])  # so many of the first ids have no confirmed record
+        waiting, done = (repeated(rng, ids, number) for ids, number in ((known[:pending], pending), (known[apart:], recent)))
 
         def fields():
             entry = max(0, last - rng.randrange(self.board.life))
@@ -94,9 +95,8 @@ class Crowd:
         """A list of hundreds or thousands: of ids that are pending, that have a record, that the block before has listed, and of strangers; each once, or drawn from them."""
         rng, memory, many = self.rng, self.run.memory, self.rng.choice(LISTED)
         pending, recent = list(memory.pending_records()), list(memory.recent_records())
-        few = rng.choice([1, many // 10, many // 3, many, many])
-        pool = some(rng, pending, few) + some(rng, recent, many // rng.choice([3, 20])) + some(rng, self.listed, many // rng.choice([3, 20]))
-        pool += [self.any_id() for _ in range(many // rng.choice([4, 20]))]
+        few, others = rng.choice([1, many // 10, many // 3, many, many, many]), many // rng.choice([3, 20, 200])
+        pool = some(rng, pending, few) + some(rng, recent, others) + some(rng, self.listed, others) + [self.any_id() for _ in range(others)]
         return in_order(rng, rng.choices(pool, k=many) if rng.random() < 0.6 else pool[:many])
 
     def height(self):
