@@ -7,14 +7,15 @@ import exhaustive
 import flavours
 import leaps
 import page
+import thousands
 import turns
 import wide
 import worked
 from files import WIDE
 
-KINDS = ["fixed", "worked", "exhaustive", "random", "leaps", "boards"]
+KINDS = ["fixed", "worked", "exhaustive", "random", "leaps", "boards", "crowds"]
 # how many random scripts there are for each random one of these kinds
-RANDOM_FOR = {"leaps": 40, "boards": 5}
+RANDOM_FOR = {"leaps": 40, "boards": 5, "crowds": 130}
 
 
 def scripts(kind, seed, count):
@@ -30,7 +31,7 @@ def scripts(kind, seed, count):
         if kind == "boards":
             yield from ((f"wide, {title}", text, answers) for title, text, answers in edges.scripts(WIDE))
             yield from wide.scripts()
-        maker = {"random": flavours, "leaps": leaps, "boards": turns}[kind]
+        maker = {"random": flavours, "leaps": leaps, "boards": turns, "crowds": thousands}[kind]
         many = -(-count // RANDOM_FOR.get(kind, 1))
         yield from ((*maker.script(seed, number), None) for number in range(1, many + 1))
 

@@ -49,6 +49,46 @@ impl Numbers {
     }
 }
 
+/// The ids of a file, and how they stand in it.
+#[derive(Clone, Copy, PartialEq)]
+pub enum Order {
+    /// As both sides write them.
+    Rising,
+    Reversed,
+    Shuffled,
+    /// Shuffled, and each id stands twice; what is read last counts.
+    Repeats,
+    /// Shuffled, and the ids are 0, 1, 2 .. as numbers of 32 bytes, so that they differ in their last bytes alone.
+    Counters,
+}
+
+impl Order {
+    /// So many ids of a file.
+    fn ids(self, numbers: &mut Numbers, number: usize) -> Vec<Id> {
+        let mut ids = numbers.ids(number);
+        ids.sort_unstable();
+        let mut others = Numbers::new(3);
+        match self {
+            Self::Rising => return ids,
+            Self::Reversed => {
+                ids.reverse();
+                return ids;
+            }
+            Self::Shuffled => {}
+            Self::Repeats => (1..number).step_by(2).for_each(|place| ids[place] = ids[place - 1]),
+            Self::Counters => (0..).zip(&mut ids).for_each(|(at, id)| *id = counter(at)),
+        }
+        others.shuffle(&mut ids);
+        ids
+    }
+}
+
+fn counter(at: u32) -> Id {
+    let mut id = [0; 32];
+    id[28..].copy_from_slice(&at.to_be_bytes());
+    id
+}
+
 /// A history, and the ids that are pending in it.
 pub struct History {
     pub bytes: Vec<u8>,
@@ -57,7 +97,7 @@ pub struct History {
 
 /// A history at HEIGHT of a board whose columns are so many blocks wide, with so many records of each kind. Entries are spread over the last 25 columns, confirmations over
 /// the last 25 heights, and resolved-through is what a run would have left. So many of the lowest buckets are in use, and the counts of the others are zero.
-pub fn history(width: u32, pending: usize, confirmed: usize, reversed: bool, in_use: u64) -> History {
+pub fn history(width: u32, pending: usize, confirmed: usize, order: Order, in_use: u64) -> History {
     let mut numbers = Numbers::new(1);
     let fresh = original::FeeEstimator::new().to_history_bytes();
     let (magic, rows) = (&fresh[..8], &fresh[13..57_953]);
@@ -75,15 +115,7 @@ pub fn history(width: u32, pending: usize, confirmed: usize, reversed: bool, in_
         bytes.extend(resolved.iter().flat_map(|count| count.to_le_bytes()));
     }
 
-    let mut sorted = |number| {
-        let mut ids = numbers.ids(number);
-        ids.sort_unstable();
-        if reversed {
-            ids.reverse();
-        }
-        ids
-    };
-    let (pending, confirmed) = (sorted(pending), sorted(confirmed));
+    let (pending, confirmed) = (order.ids(&mut numbers, pending), order.ids(&mut numbers, confirmed));
     let count = |list: &[Id]| u32::try_from(list.len()).expect("a count of 32 bits").to_le_bytes();
     bytes.extend(count(&pending));
     for id in &pending {

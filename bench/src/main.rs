@@ -1,4 +1,5 @@
-//! One row of the benchmark on one side: `bench original|library|wide ROW count|time|memory`, where `wide` is the library's other board. A row is a call in a state; see `rows.rs`.
+//! One row of the benchmark on one side: `bench original|library|wide ROW count|time|memory`, where `wide` is the library's other board. A row is a call in a state; `rows.rs`
+//! tells how it is named.
 //!
 //! - `count` makes the row's calls once, inside the function `measured` and between two calls of getppid, so that a tool can count the instructions executed there.
 //!   Prints the number of calls.
@@ -7,11 +8,13 @@
 
 mod heap;
 mod inputs;
+mod lent;
 mod rows;
 mod sides;
 
 use heap::Heap;
 use inputs::History;
+use lent::Lent;
 use rows::Row;
 use sides::Estimator;
 use std::env;
@@ -23,20 +26,23 @@ static HEAP: Heap = Heap::new();
 fn main() {
     let words: Vec<String> = env::args().skip(1).collect();
     let words: Vec<&str> = words.iter().map(String::as_str).collect();
-    match words.as_slice() {
-        ["rows"] => rows::all().iter().for_each(|row| println!("{row}")),
-        ["original", row, mode] => run::<original::FeeEstimator>(row, mode),
-        ["library", row, mode] => run::<izrughem::FeeEstimator>(row, mode),
-        ["wide", row, mode] => run::<izrughem::WideFeeEstimator>(row, mode),
-        _ => {
-            eprintln!("usage: bench rows | bench original|library|wide ROW count|time|memory");
-            std::process::exit(2);
-        }
+    let [side, row, mode] = words.as_slice() else { stop("usage: bench original|library|wide ROW count|time|memory") };
+    let Some(row) = Row::named(row) else { stop(&format!("'{row}' names no row")) };
+    match (*side, row.lent_by_hand()) {
+        ("original", _) => run::<original::FeeEstimator>(&row, mode),
+        ("library", false) => run::<izrughem::FeeEstimator>(&row, mode),
+        ("library", true) => run::<Lent>(&row, mode),
+        ("wide", false) => run::<izrughem::WideFeeEstimator>(&row, mode),
+        _ => stop(&format!("no side '{side}' for this row")),
     }
 }
 
-fn run<E: Estimator>(row: &str, mode: &str) {
-    let row: Row = row.parse().unwrap_or_else(|error| panic!("{row}: {error}"));
+fn stop(why: &str) -> ! {
+    eprintln!("bench: {why}");
+    std::process::exit(2)
+}
+
+fn run<E: Estimator>(row: &Row, mode: &str) {
     let history = row.history(E::WIDTH);
     match mode {
         "count" => {
@@ -46,7 +52,7 @@ fn run<E: Estimator>(row: &str, mode: &str) {
             mark();
             println!("{}", work.number);
         }
-        "time" => println!("{:.1}", least_time::<E>(&row, &history)),
+        "time" => println!("{:.1}", least_time::<E>(row, &history)),
         "memory" => {
             let held = HEAP.held();
             let mut work = row.work::<E>(&history);
@@ -55,7 +61,7 @@ fn run<E: Estimator>(row: &str, mode: &str) {
             measured(&mut *work.calls);
             println!("{} {}", before - held, HEAP.most() - before);
         }
-        _ => panic!("{mode} is no mode"),
+        _ => stop(&format!("no mode '{mode}'")),
     }
 }
 

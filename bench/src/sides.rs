@@ -1,7 +1,8 @@
 //! The sides behind one trait, and the processor's clock.
 
-use crate::inputs::Id;
-use std::any::Any;
+use crate::inputs::{HEIGHT, Id};
+use crate::rows::Call;
+use std::hint::black_box;
 use std::time::Duration;
 
 /// The calls of an estimator.
@@ -16,9 +17,11 @@ pub trait Estimator: Sized + 'static {
     fn estimate(&self, target: u32) -> Option<u64>;
     fn to_history_bytes(&self) -> Vec<u8>;
     fn from_history_bytes(bytes: &[u8]) -> Self;
-    /// The library's own calls on the base board, refused once all memory that they use has been judged. The original judges nothing.
-    fn judged(&mut self) -> Option<&mut izrughem::FeeEstimator> {
-        (self as &mut dyn Any).downcast_mut()
+    /// Lends a table of so many places. No other side but that which lends by hand has a say in it.
+    fn lend(&mut self, _call: Call, _places: usize) {}
+    /// Makes the call so that it is refused (or, an estimate, answered without a look at a bucket) once all memory that it uses has been judged; whether it was.
+    fn judge(&mut self, _call: Call) -> bool {
+        unimplemented!("the original judges nothing")
     }
 }
 
@@ -88,6 +91,17 @@ macro_rules! library {
 
             fn from_history_bytes(bytes: &[u8]) -> Self {
                 Self::from_history_bytes(bytes).expect("it is read")
+            }
+
+            fn judge(&mut self, call: Call) -> bool {
+                match call {
+                    Call::Enter => self.try_tx_entered(izrughem::Txid([0; 32]), izrughem::FLOOR - 1, HEIGHT).is_err(),
+                    Call::Leave => self.try_tx_left(&izrughem::Txid([0; 32])).is_err(),
+                    Call::Block(_) | Call::Gap(_) => self.try_block_step(&[], HEIGHT + izrughem::WIDEST_GAP + 1).is_err(),
+                    Call::Estimate(targets) => (0..targets).all(|_| self.try_estimate(black_box(0)) == Ok(None)),
+                    Call::Write => self.try_to_history_bytes(&mut []).is_err(),
+                    Call::Read(_) => unreachable!("reading judges the file, which is its work"),
+                }
             }
         }
     };
