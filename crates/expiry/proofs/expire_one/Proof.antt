@@ -89,7 +89,7 @@ returns c =
       c .before .before .put-field .ensures
           ∙ ap (λ (m : ℕ). laid m (a .used) (set (records m (a .used) xs) (a .i) (with-field through-at (n .outwaited .result) (at-size p m))) xs) (size-is p)
           ∙ ap (λ (w : List ℕ). laid (board-of (a .on) .table .size) (a .used) (set (records (board-of (a .on) .table .size) (a .used) xs) (a .i) w) xs)
-          (raised-yes (board-of (a .on) .width) (a .h .0) _ _ (rec p) (through-is p) (reach-is n) (t .if1 .taken)),
+          (raised-yes (board-of (a .on) .width) (a .h .0) (p .pending-at .result .through) (n .outwaited .result) (rec p) (through-is p) (reach-is n) (omega (arith, t .if1 .taken))),
     )
 
 returns-2 : tie.Need-returns-2
