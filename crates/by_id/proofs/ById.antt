@@ -6,7 +6,7 @@ use mathlib.Core.Option.{none, some}
 use Prim.Native.Nat.{ℕ, _+_, _-_, _*_, _^_, _≤_, _<_}
 use native.Mathlib.Omega.{arith}
 use lib.Dec.{T, eqb}
-use lib.ListN.{length, getD, set, length-map, length-append, length-take, length-drop, length-set}
+use lib.ListN.{length, take, drop, getD, set, length-map, length-append, length-take, length-drop, length-set}
 use lib.Pow.{areBytes}
 use Rattle.rules.specs.Ids.{Id, rising}
 use Rattle.rules.specs.Records.{records, id-of, sound-table, laid}
@@ -22,7 +22,7 @@ use Rattle.table.specs.Fields.{with-field}
 use Rattle.ids.specs.declared.Found.{Found}
 use Rattle.ids.specs.declared.Found.the-variants.{At, Gap}
 use Rattle.table.proofs.Fields.{length-with-field}
-use Rattle.ids.proofs.Records.{length-ids}
+use Rattle.ids.proofs.Records.{length-ids, record-end, id-at}
 use Rattle.table.proofs.Records.{sized-insert, sized-remove, sized-set, sized-at}
 use Rattle.ids.proofs.Search.{at-told, gap-told}
 use Rattle.table.proofs.Sound.{sound-told, sound-room}
@@ -51,12 +51,27 @@ at-used size used n xs i f = let t = at-told i (map id-of (records size used xs)
 pub gap-used : (size used n : ℕ) (xs : List ℕ) (i : Id) → find-in i (map id-of (records size used xs)) ≡ Gap n → n ≤ used
 gap-used size used n xs i f = let t = gap-told i (map id-of (records size used xs)) n f in omega (arith, t .within, length-ids size used xs)
 
+-- the records are within the bytes
+pub within-bytes : (n m most used : ℕ) (xs : List ℕ) → n ≡ m → sound-table m most used xs ≡ true → used * n ≤ length xs
+within-bytes n m most used xs q s = subst (λ (x : ℕ). used * x ≤ length xs) (sym q) (sound-room m most used xs (sound-told m most used xs s))
+
 -- what reading or changing the record that is found asks
 pub in-table : (n m most used j : ℕ) (xs : List ℕ) (i : Id) → n ≡ m → sound-table m most used xs ≡ true → find-in i (map id-of (records m used xs)) ≡ At j → (j < used) × (used * n ≤ length xs)
-in-table n m most used j xs i q s f =
-    (at-used m used j xs i f, subst (λ (x : ℕ). used * x ≤ length xs) (sym q) (sound-room m most used xs (sound-told m most used xs s)))
+in-table n m most used j xs i q s f = (at-used m used j xs i f, within-bytes n m most used xs q s)
+
+-- the id of record number i stands within the bytes
+pub id-within : (n m most used i : ℕ) (xs : List ℕ) → n ≡ m → 32 ≤ n → i < used → sound-table m most used xs ≡ true → i * n + 32 ≤ length xs
+id-within n m most used i xs q h l s = omega (arith, within-bytes n m most used xs q s, record-end n used i l)
 
 -- ---- the pending table
+
+-- the part of the bytes that is lent as the id of record number i
+pub lent-id : (k : Board) → Lawful k → (n used i : ℕ) (xs : List ℕ) → n ≡ k .table .size → 32 ≤ n → i < used
+    → take (i * n + 32 - i * n) (drop (i * n) xs) ≡ k .table .read (getD (records (k .table .size) used xs) i []) .id
+lent-id k law n used i xs q h l =
+    let m : i * n + 32 - i * n ≡ 32 = omega arith in
+    ap (λ (m : ℕ). take m (drop (i * n) xs)) m
+    ∙ sym (law .named (getD (records (k .table .size) used xs) i []) ∙ ap (λ (z : ℕ). id-of (getD (records z used xs) i [])) (sym q) ∙ id-at n used i xs h l)
 
 module _ (k : Board) (law : Lawful k) (i : Id) (used n : ℕ) (xs : List ℕ) (s : sound-table (k .table .size) pending-most used xs ≡ true) where
   pub there : find-in i (map id-of (records (k .table .size) used xs)) ≡ At n → true ≡ is-pending i (pending-records k used xs)

@@ -1,0 +1,8 @@
+-- Laws of listed pending records that are settled.
+
+-- one look at the confirmed table
+pub mod Renewing
+-- one record
+pub mod Settling
+-- one after the other
+pub mod Passing
