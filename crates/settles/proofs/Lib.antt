@@ -4,5 +4,7 @@
 pub mod Renewing
 -- one record
 pub mod Settling
+-- the confirmed table meanwhile
+pub mod Raised
 -- one after the other
 pub mod Passing

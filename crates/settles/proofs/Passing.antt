@@ -36,6 +36,7 @@ use Rattle.batch.proofs.Settling.{raised-next}
 use Rattle.ready.specs.Ready.{Ready}
 use Rattle.ready.proofs.Facts.{confirmed-places, resolved-places, pending-sound, used-recent, Long, long-same, long-after}
 use Rattle.settles.specs.Settled.{Settled, AllSettled}
+use Rattle.settles.proofs.Raised.{raised-none, raised-sound, raised-seen, raised-over}
 
 -- ---- one more at the end
 
@@ -67,14 +68,6 @@ absent-of i (more {a = q} h hs) = rw (below-apart (q .id) i h) (absent-of i hs)
 
 held-as-before : (B : ℕ) (i : Id) {gone : List Pending} (cs : List Confirmed) → All (λ q. below (q .id) i ≡ true) gone → holds i B (raised B gone cs) ≡ holds i B cs
 held-as-before B i {gone} cs a = holds-raised B i B gone cs ∙ ap (λ (t : Bool). cond t (is-confirmed i cs && eqb B B) (holds i B cs)) (absent-of i a)
-
-all-raised : (B : ℕ) (gone : List Pending) {cs : List Confirmed} → B < 256 ^ 4 → All ConfirmedFits cs → All ConfirmedFits (raised B gone cs)
-unfolding raised
-all-raised B gone b h = all-map _ (λ c f. go c f (is-pending (c .id) gone)) h
-  where
-    go : (c : Confirmed) → ConfirmedFits c → (t : Bool) → ConfirmedFits (cond t (record { id = c .id; height = B }) c)
-    go c f true = record { id = f .id; height = b }
-    go c f false = f
 
 -- ---- the loop
 
@@ -117,10 +110,6 @@ module _ (k : Board) (law : Lawful k) (B : ℕ) (small : B < 256 ^ 4) (s : State
   many : length records-of ≡ s .pending
   many = pending-length k (s .pending) (l₀ .pending)
 
-  own : l₀ .recent ≡ lay-confirmed held-of (l₀ .recent)
-  unfolding view lay
-  own = sym (ap (λ (m : Lent). m .recent) (ready .own))
-
   pub passed-none : Now 0 l₀ ms₀
   unfolding picked counted keep gains fresh-of
   passed-none =
@@ -128,7 +117,7 @@ module _ (k : Board) (law : Lawful k) (B : ℕ) (small : B < 256 ^ 4) (s : State
         within = omega arith;
         confirmed = refl;
         resolved = refl;
-        recent = own ∙ ap (λ (l : List Confirmed). lay-confirmed l (l₀ .recent)) (sym (none-raised B held-of));
+        recent = raised-none k B s l₀ ready;
         new = refl;
         rest = refl;
         ahead = refl;
@@ -136,35 +125,9 @@ module _ (k : Board) (law : Lawful k) (B : ℕ) (small : B < 256 ^ 4) (s : State
         lengths = long-same l₀;
       }
 
-  long-held : (gs : List Pending) → length (raised B gs held-of) ≡ s .recent
-  unfolding raised confirmed-records
-  long-held gs = length-map held-of _ ∙ length-map (records confirmed-size (s .recent) (l₀ .recent)) confirmed-of ∙ length-records confirmed-size (s .recent) (l₀ .recent)
-
-  fits : (gs : List Pending) → All ConfirmedFits (raised B gs held-of)
-  unfolding view
-  fits gs = all-raised B gs small (ready .well .recent)
-
-  room : (gs : List Pending) → length (raised B gs held-of) ≤ confirmed-capacity (l₀ .recent)
-  room gs = omega (arith, long-held gs, used-recent k law s l₀ ready, ready .room .recent)
-
   module _ (i : ℕ) (l : Lent) (ms : List ℕ) (v : Now i l ms) where
-    still-sound : sound-table confirmed-size confirmed-most (s .recent) (l .recent) ≡ true
-    unfolding lay-confirmed view
-    still-sound =
-        ap (sound-table confirmed-size confirmed-most (s .recent)) (v .recent)
-        ∙ subst (λ (n : ℕ). sound-table confirmed-size confirmed-most n (lay-confirmed (raised B (gone-of i) held-of) (l₀ .recent)) ≡ true) (long-held (gone-of i))
-        (laid-sound confirmed-kept (λ q. q .id) confirmed-id confirmed-most (l₀ .recent) (fits (gone-of i)) (up-raised B (gone-of i) (ready .well .recent-up)) (room (gone-of i)))
-
     seen : confirmed-records (s .recent) (l .recent) ≡ raised B (gone-of i) held-of
-    unfolding lay-confirmed confirmed-records
-    seen =
-        ap (λ (b : List ℕ). map confirmed-of (records confirmed-size (s .recent) b)) (v .recent)
-        ∙ ap (λ (n : ℕ). map confirmed-of (records confirmed-size n (lay-confirmed (raised B (gone-of i) held-of) (l₀ .recent)))) (sym (long-held (gone-of i)))
-        ∙ there confirmed-kept (confirmed-capacity (l₀ .recent)) (l₀ .recent) (fits (gone-of i))
-
-    relaid : (gs : List Pending) → lay-confirmed (raised B gs held-of) (l .recent) ≡ lay-confirmed (raised B gs held-of) (l₀ .recent)
-    unfolding lay-confirmed
-    relaid gs = ap (lay-confirmed (raised B gs held-of)) (v .recent) ∙ over confirmed-kept confirmed-most (l₀ .recent) (fits (gone-of i)) (room (gone-of i)) (raised B gs held-of)
+    seen = raised-seen k law B small s l₀ ready (gone-of i) (l .recent) (v .recent)
 
     -- all places are passed
     pub passed-all : i ≡ s .pending → AllSettled k B (view k s l₀) l₀ ms₀ l ms
@@ -207,7 +170,7 @@ module _ (k : Board) (law : Lawful k) (B : ℕ) (small : B < 256 ^ 4) (s : State
           let w : WellPending (k .table .read (getD (records (k .table .size) (s .pending) (l₀ .pending)) i [])) = subst WellPending is-read (all-at i (k .table .read []) (ready .well .pending) in-rs) in
           let c = confirmed-places k law s l₀ ready in
           let d = resolved-places k law s l₀ ready in
-          ((h, pending-sound k law s l₀ ready), ((w .bucket, omega (arith, v .lengths .confirmed), omega (arith, v .lengths .resolved)), still-sound))
+          ((h, pending-sound k law s l₀ ready), ((w .bucket, omega (arith, v .lengths .confirmed), omega (arith, v .lengths .resolved)), raised-sound k law B small s l₀ ready (gone-of i) (l .recent) (v .recent)))
 
       same-mark : getD ms i 0 ≡ getD ms₀ i 0
       same-mark =
@@ -252,7 +215,7 @@ module _ (k : Board) (law : Lawful k) (B : ℕ) (small : B < 256 ^ 4) (s : State
             resolved = q .resolved ∙ ap₂ (λ (t : Bool) (c : Counts). cond t c (gain (r .bucket) (unresolved r) c)) held (v .resolved) ∙ counts-one unresolved B held-of (gone-of i) r (l₀ .resolved)
                 ∙ ap (λ (g : List Pending). gains unresolved (counted B held-of g) (l₀ .resolved)) next;
             recent = q .recent ∙ ap (λ (c : List Confirmed). lay-confirmed c (l .recent)) (ap (raised B (r ∷ [])) seen ∙ sym (raised-snoc B (gone-of i) r held-of) ∙ ap (λ (g : List Pending). raised B g held-of) next)
-                ∙ relaid (gone-of (i + 1));
+                ∙ raised-over k law B small s l₀ ready (gone-of i) (l .recent) (v .recent) (raised B (gone-of (i + 1)) held-of);
             new = pick-next 1 (set ms i mark) in-set
                 ∙ ap₂ (λ (g : List Pending) (n : ℕ). g ++ cond (eqb n 1) (r ∷ []) []) (ap (λ (n : List ℕ). picked 1 n (take i records-of)) front ∙ v .new) mark-is
                 ∙ ap (λ (t : Bool). fresh-of (gone-of i) held-of ++ cond t (r ∷ []) []) (one-new (is-confirmed (r .id) held-of))
