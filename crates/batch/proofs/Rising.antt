@@ -17,7 +17,19 @@ all-at n d none h = absurd (not-suc-le-zero h)
 all-at zero d (more p ps) h = p
 all-at (suc n) d (more p ps) h = all-at n d ps (le-of-suc-le-suc h)
 
+-- and of the first n
+all-take : {A : Type 0} {P : A → Type 0} (n : ℕ) {xs : List A} → All P xs → All P (take n xs)
+all-take zero h = none
+all-take (suc n) none = none
+all-take (suc n) (more h hs) = more h (all-take n hs)
+
 module _ {A : Type 0} (id : A → Id) where
+  -- the first n rise
+  pub up-take : (n : ℕ) {rs : List A} → Up id rs → Up id (take n rs)
+  up-take zero u = end
+  up-take (suc n) end = end
+  up-take (suc n) (step a u) = step (all-take n a) (up-take n u)
+
   -- an id is none of those above it
   pub above-absent : (i : Id) {rs : List A} → All (λ q. below i (id q) ≡ true) rs → any (λ q. same (id q) i) rs ≡ false
   unfolding any

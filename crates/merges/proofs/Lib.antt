@@ -1,0 +1,8 @@
+-- Laws of the merge of new confirmed records.
+
+-- one goes in between those below it and those above it
+pub mod Between
+-- where it goes in, as a search tells
+pub mod Ranks
+-- the table while records go in
+pub mod Turns
