@@ -25,6 +25,7 @@ use Rattle.batch.specs.Picked.{picked}
 use Rattle.batch.proofs.Picked.{map-picked, all-picked}
 use Rattle.ready.specs.Ready.{Ready}
 use Rattle.ready.proofs.Facts.{pending-sound}
+use Rattle.merges.specs.New.{at-height as new-record}
 use Rattle.settles.proofs.Raised.{raised-length, raised-fits, raised-sound, raised-capacity, raised-over}
 
 -- ---- a merge in bytes
@@ -87,9 +88,10 @@ module _ (k : Board) (law : Lawful k) (s : State) (l : Lent) (ready : Ready k s 
       let e : picked 0 ms (records n (s .pending) (l .pending)) ≡ bs =
       ap (λ (z : ℕ). picked 0 ms (records z (s .pending) (l .pending))) size ∙ ap (picked 0 ms) own-records ∙ sym (map-picked 0 (k .table .write) ms rs) ∙ ap (map (k .table .write)) q in
       let g = sound-told (k .table .size) pending-most (s .pending) (l .pending) (pending-sound k law s l ready) in
-      let few : length bs ≤ s .pending = omega (arith, length-map qs (k .table .write)) in
-      (many ∙ ap length e ∙ length-map qs (k .table .write),
-        is ∙ ap₂ (λ (z : ℕ) (cs : List (List ℕ)). laid z (s .pending) cs (l .pending)) size e ∙ laid-up (k .table .size) pending-most (s .pending) (s .pending) bs (l .pending) g few (omega arith) (g .fit))
+      let few : length bs ≤ s .pending = omega (arith, length-map qs (k .table .write)) in (
+        many ∙ ap length e ∙ length-map qs (k .table .write),
+        is ∙ ap₂ (λ (z : ℕ) (cs : List (List ℕ)). laid z (s .pending) cs (l .pending)) size e ∙ laid-up (k .table .size) pending-most (s .pending) (s .pending) bs (l .pending) g few (omega arith) (g .fit),
+      )
 
   -- the confirmed table, where those of `gone` have got the height B, and those that the mark 1 picks go in
   module _ (B : ℕ) (small : B < 256 ^ 4) (gone : List Pending) (a : List ℕ) (e : a ≡ lay-confirmed (raised B gone (confirmed-records (s .recent) (l .recent))) (l .recent)) where
@@ -103,7 +105,7 @@ module _ (k : Board) (law : Lawful k) (s : State) (l : Lent) (ready : Ready k s 
         ap₂ (λ (m : ℕ) (ys : List ℕ). records confirmed-size m ys) (sym n) e
         ∙ laid-records confirmed-size (confirmed-capacity (l .recent)) (map confirmed-bytes old) (l .recent) (all-sized confirmed-kept (raised-fits k law B small s l ready gone))
 
-    new-bytes : (bs : List (List ℕ)) → map (λ b. confirmed-bytes (record { id = id-of b; height = B })) bs ≡ map confirmed-bytes (map (at-height B) (map (k .table .read) bs))
+    new-bytes : (bs : List (List ℕ)) → map (new-record B) bs ≡ map confirmed-bytes (map (at-height B) (map (k .table .read) bs))
     new-bytes [] = refl
     new-bytes (b ∷ bs) = ap₂ (λ (i : Id) (rest : List (List ℕ)). confirmed-bytes (record { id = i; height = B }) ∷ rest) (sym (law .named b)) (new-bytes bs)
 
@@ -111,10 +113,10 @@ module _ (k : Board) (law : Lawful k) (s : State) (l : Lent) (ready : Ready k s 
       abbrev all : List Confirmed
       all = merged (λ c. c .id) (map (at-height B) new) old
 
-      new-records : picked 1 ms (map (λ b. confirmed-bytes (record { id = id-of b; height = B })) (records n (s .pending) (l .pending))) ≡ map confirmed-bytes (map (at-height B) new)
+      new-records : picked 1 ms (map (new-record B) (records n (s .pending) (l .pending))) ≡ map confirmed-bytes (map (at-height B) new)
       unfolding pending-records
       new-records =
-          ap (λ (z : ℕ). picked 1 ms (map (λ b. confirmed-bytes (record { id = id-of b; height = B })) (records z (s .pending) (l .pending)))) size
+          ap (λ (z : ℕ). picked 1 ms (map (new-record B) (records z (s .pending) (l .pending)))) size
           ∙ ap (picked 1 ms) (new-bytes (records (k .table .size) (s .pending) (l .pending)))
           ∙ sym (map-picked 1 confirmed-bytes ms (map (at-height B) rs))
           ∙ ap (map confirmed-bytes) (sym (map-picked 1 (at-height B) ms rs) ∙ ap (map (at-height B)) picks)
@@ -134,12 +136,12 @@ module _ (k : Board) (law : Lawful k) (s : State) (l : Lent) (ready : Ready k s 
       new-fits = all-map (at-height B) (λ r w. record { id = w .id; height = small }) (subst (All WellPending) picks (all-picked 1 ms (ready .well .pending)))
 
       pub merged-told : length all ≤ confirmed-capacity (l .recent) → (t : List ℕ)
-          → t ≡ laid confirmed-size (s .recent + fresh) (merged id-of (picked 1 ms (map (λ b. confirmed-bytes (record { id = id-of b; height = B })) (records n (s .pending) (l .pending)))) (records confirmed-size (s .recent) a)) a
+          → t ≡ laid confirmed-size (s .recent + fresh) (merged id-of (picked 1 ms (map (new-record B) (records n (s .pending) (l .pending)))) (records confirmed-size (s .recent) a)) a
           → t ≡ lay-confirmed all (l .recent)
       unfolding lay-confirmed
       merged-told room t is =
           let bs : List (List ℕ) = map confirmed-bytes all in
-          let q : merged id-of (picked 1 ms (map (λ b. confirmed-bytes (record { id = id-of b; height = B })) (records n (s .pending) (l .pending)))) (records confirmed-size (s .recent) a) ≡ bs =
+          let q : merged id-of (picked 1 ms (map (new-record B) (records n (s .pending) (l .pending)))) (records confirmed-size (s .recent) a) ≡ bs =
           ap₂ (merged id-of) new-records old-records ∙ merged-bytes new-fits (raised-fits k law B small s l ready gone) in
           let g = sound-told confirmed-size confirmed-most (s .recent) a (raised-sound k law B small s l ready gone a e) in
           is ∙ ap (λ (cs : List (List ℕ)). laid confirmed-size (s .recent + fresh) cs a) q

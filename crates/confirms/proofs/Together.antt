@@ -12,8 +12,8 @@ use Rattle.kinds.specs.Answers.{done}
 use Rattle.rules.specs.Lists.{count}
 use Rattle.rules.specs.Ids.{Id}
 use Rattle.rules.specs.Counts.{places-of-counts}
-use Rattle.rules.specs.Records.{records, id-of, laid}
-use Rattle.rules.specs.Board.{Board, Lawful, Pending, Confirmed, confirmed-size, confirmed-bytes}
+use Rattle.rules.specs.Records.{records, id-of, sound-table, laid}
+use Rattle.rules.specs.Board.{Board, Lawful, Pending, Confirmed, pending-most, confirmed-size, confirmed-most}
 use Rattle.rules.specs.Estimator.{Estimator, confirm-all}
 use Rattle.rules.specs.Memory.{Lent, lent, pending-records, confirmed-records, confirmed-capacity, lay-pending, lay-confirmed, view, state-of, lay}
 use Rattle.rules.specs.Calls.{outcome, accepted, ids-of}
@@ -32,8 +32,12 @@ use Rattle.batch.proofs.Together.{well-rises}
 use Rattle.marks.specs.Marks.{beside}
 use Rattle.ready.specs.Ready.{Ready}
 use Rattle.ready.proofs.Ready.{step-none}
-use Rattle.ready.proofs.Facts.{confirmed-places, resolved-places}
+use Rattle.ready.proofs.Facts.{confirmed-places, resolved-places, pending-sound}
+use Rattle.table.proofs.Records.{cap-room}
+use Rattle.table.proofs.Sound.{sound-told, sound-room}
 use Rattle.settles.specs.Settled.{AllSettled}
+use Rattle.settles.proofs.Raised.{raised-sound}
+use Rattle.merges.specs.New.{Given, at-height as new-record}
 use Rattle.confirms.proofs.Marked.{picks-marked, picks-others, picked-count}
 use Rattle.confirms.proofs.Gained.{gains-first}
 use Rattle.confirms.proofs.Tables.{compacted, as-many, merged-told}
@@ -105,8 +109,27 @@ module _ (k : Board) (law : Lawful k) (B : ℕ) (small : B < 256 ^ 4) (s : State
     all-room : length all ≤ confirmed-capacity (l .recent)
     all-room = subst (λ (e : Estimator). length (e .recent) ≤ confirmed-capacity (l .recent)) ends room
 
+    -- so many records find a place
+    pub places-for-all : s .recent + fresh ≤ confirmed-capacity (l .recent)
+    places-for-all = omega (arith, all-many, all-room)
+
+    -- what the merge asks
+    pub merge-asks : 32 ≤ n → length (m .recent) ≡ length (l .recent) → Given n (s .pending) (s .recent) fresh (l .pending) ns (m .recent)
+    merge-asks wide long =
+        let g = sound-told n pending-most (s .pending) (l .pending) (ap (λ (z : ℕ). sound-table z pending-most (s .pending) (l .pending)) size ∙ pending-sound k law s l ready) in
+        let r = cap-room confirmed-size confirmed-most (s .recent + fresh) _ (l .recent) refl places-for-all in
+        record {
+          wide = wide;
+          table-room = sound-room n pending-most (s .pending) (l .pending) g;
+          marks-room = enough;
+          recent-room = omega arith;
+          table-up = g .rise;
+          recent-up = sound-told confirmed-size confirmed-most (s .recent) (m .recent) (raised-sound k law B small s l ready gone (m .recent) heights) .rise;
+          many = many;
+        }
+
     pub phases-are : (left : ℕ) (ps t : List ℕ)
-        → t ≡ laid confirmed-size (s .recent + fresh) (merged id-of (picked 1 ns (map (λ b. confirmed-bytes (record { id = id-of b; height = B })) (records n (s .pending) (l .pending)))) (records confirmed-size (s .recent) (m .recent))) (m .recent)
+        → t ≡ laid confirmed-size (s .recent + fresh) (merged id-of (picked 1 ns (map (new-record B) (records n (s .pending) (l .pending)))) (records confirmed-size (s .recent) (m .recent))) (m .recent)
         → left ≡ length (picked 0 ns (records n (s .pending) (l .pending))) → ps ≡ laid n (s .pending) (picked 0 ns (records n (s .pending) (l .pending))) (l .pending)
         → outcome done (record { last = s .last; pending = left; recent = s .recent + fresh }) (lent (m .confirmed) (m .resolved) ps t) ≡ accepted k (confirm-all k B ids (view k s l)) l
     unfolding view state-of lay

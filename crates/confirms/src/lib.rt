@@ -4,6 +4,7 @@ use kinds::Horizon;
 use kinds::State;
 use marks::drop_marked;
 use marks::mark_listed;
+use merges::merge;
 use room::no_marks;
 use settles::settle_all;
 ghost use mathlib.Core.Path.{_≡_};
@@ -33,4 +34,51 @@ fn count_new(marks: &[u8], used: usize) -> usize
         i += 1;
     }
     n
+}
+
+// Confirms the listed ids at h.
+pub fn confirm_all(
+    state: State,
+    confirmed: &mut [f64],
+    resolved: &mut [f64],
+    pending: &mut [u8],
+    recent: &mut [u8],
+    ids: &[u8],
+    h: Height,
+    on: Horizon,
+) -> State
+    requires { ⌜ Ready (board-of on) state (given confirmed resolved pending recent) ⌝ }
+    requires { ⌜ length (confirm-all (board-of on) (h .0) (ids-of (now ids)) (view (board-of on) state (given confirmed resolved pending recent)) .recent) ≤ confirmed-capacity (now recent) ⌝ }
+    ensures { λ r. ⌜
+        outcome done r (after confirmed resolved pending recent)
+        ≡ accepted (board-of on) (confirm-all (board-of on) (h .0) (ids-of (now (ids .entry))) (view (board-of on) state (before confirmed resolved pending recent)))
+        (before confirmed resolved pending recent) ⌝ }
+{
+    if ids.len() < 32 {
+        return state;
+    }
+    let last = state.last;
+    let used = state.pending;
+    let kept = state.recent;
+    let size = boards::record_size(on);
+    let mut marks = no_marks();
+    mark_listed(pending, size, used, ids, &mut marks);
+    settle_all(
+        state,
+        confirmed,
+        resolved,
+        pending,
+        recent,
+        &mut marks,
+        h,
+        on,
+    );
+    let fresh = count_new(&marks, used);
+    merge(pending, size, used, &marks, recent, kept, fresh, h);
+    let left = drop_marked(pending, size, used, &marks);
+    State {
+        last: last,
+        pending: left,
+        recent: kept + fresh,
+    }
 }

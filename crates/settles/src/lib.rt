@@ -92,7 +92,13 @@ fn settle(
     if was == 0 {
         return 2;
     }
-    count(confirmed, resolved, pending_at(pending, size, used, i), h, on);
+    count(
+        confirmed,
+        resolved,
+        pending_at(pending, size, used, i),
+        h,
+        on,
+    );
     was
 }
 
