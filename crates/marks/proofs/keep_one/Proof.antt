@@ -31,12 +31,12 @@ add-result-2 c = (let s = c .before .before .before in omega (arith, mul-le-mul-
 returns : tie.Need-returns
 returns c =
     let s = c .before .before .before .before .before .before .before in
-    rw (c .before .before .shift-down .ensures) (moved-stays (λ _. eqb (s .args .mark) 0) (s .args .size) (s .args .k) (s .args .i) (now (s .args .table)) (s .pre .1 .0) (s .pre .1 .1) (eq-eqb (s .args .mark) 0 (c .before .before .before .before .before .if1 .taken)))
+    rw (c .before .before .shift-down .ensures) (moved-stays (λ _. eqb (s .args .mark) 0) (s .args .size) (s .args .k) (s .args .i) (now (s .args .table)) (s .pre .1 .0) (s .pre .1 .1) (eq-eqb (s .args .mark) 0 (omega (arith, c .before .before .before .before .before .if1 .taken))))
 
 returns-2 : tie.Need-returns-2
 returns-2 c =
     let s = c .before .before .before in
-    moved-same (λ _. eqb (s .args .mark) 0) (s .args .size) (s .args .k) (s .args .i) (now (s .args .table)) (omega (arith, s .pre .1 .0)) (eq-eqb (s .args .mark) 0 (c .before .if1 .taken))
+    moved-same (λ _. eqb (s .args .mark) 0) (s .args .size) (s .args .k) (s .args .i) (now (s .args .table)) (omega (arith, s .pre .1 .0)) (eq-eqb (s .args .mark) 0 (omega (arith, c .before .if1 .taken)))
 
 returns-3 : tie.Need-returns-3
 returns-3 c =
