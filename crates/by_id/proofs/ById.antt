@@ -2,7 +2,6 @@
 use mathlib.Core.Path.{_≡_, sym, ap, subst, _∙_}
 use mathlib.Core.Bool.{true, false}
 use mathlib.Core.List.{List, [], map}
-use mathlib.Core.Option.{none, some}
 use Prim.Native.Nat.{ℕ, _+_, _-_, _*_, _^_, _≤_, _<_}
 use native.Mathlib.Omega.{arith}
 use lib.Dec.{T, eqb}
@@ -10,24 +9,24 @@ use lib.ListN.{length, take, drop, getD, set, length-map, length-append, length-
 use lib.Pow.{areBytes}
 use Rattle.rules.specs.Ids.{Id, rising}
 use Rattle.rules.specs.Records.{records, id-of, sound-table, laid}
-use Rattle.rules.specs.Board.{Board, Lawful, Confirmed, pending-most, confirmed-size, confirmed-most, confirmed-of, confirmed-bytes}
-use Rattle.rules.specs.Estimator.{is-pending, find, without, holds, become}
-use Rattle.rules.specs.Memory.{pending-records, confirmed-records, confirmed-capacity, lay-pending, lay-confirmed}
+use Rattle.rules.specs.Board.{Board, Lawful, pending-most, confirmed-size, confirmed-most, confirmed-of}
+use Rattle.rules.specs.Estimator.{is-pending, without, holds, become}
+use Rattle.rules.specs.Memory.{pending-records, confirmed-records, lay-pending, lay-confirmed}
 use Rattle.rules.proofs.Ids.{dropped-absent}
 use Rattle.rules.proofs.Records.{Sized, length-records, sized-records}
-use Rattle.rules.proofs.Memory.{confirmed-kept, ConfirmedFits, own}
+use Rattle.rules.proofs.Memory.{confirmed-kept, own}
 use Rattle.ids.specs.Search.{find-in}
-use Rattle.table.specs.Edit.{insert-at, remove-at}
+use Rattle.table.specs.Edit.{remove-at}
 use Rattle.table.specs.Fields.{with-field}
 use Rattle.ids.specs.declared.Found.{Found}
 use Rattle.ids.specs.declared.Found.the-variants.{At, Gap}
 use Rattle.table.proofs.Fields.{length-with-field}
 use Rattle.ids.proofs.Records.{length-ids, record-end, id-at}
-use Rattle.table.proofs.Records.{sized-insert, sized-remove, sized-set, sized-at}
+use Rattle.table.proofs.Records.{sized-remove, sized-set, sized-at}
 use Rattle.ids.proofs.Search.{at-told, gap-told}
 use Rattle.table.proofs.Sound.{sound-told, sound-room}
-use Rattle.table.proofs.Edited.{passed}
-use Rattle.table.proofs.Steps.{pending-missing, pending-there, pending-found, pending-lost, pending-without, confirmed-not-held, confirmed-held, confirmed-new, confirmed-again}
+use Rattle.table.proofs.Edited.{edited, passed}
+use Rattle.table.proofs.Steps.{pending-missing, pending-there, pending-without, confirmed-not-held, confirmed-held, confirmed-again}
 
 -- ---- any table
 
@@ -82,15 +81,6 @@ module _ (k : Board) (law : Lawful k) (i : Id) (used n : ℕ) (xs : List ℕ) (s
   unfolding pending-records
   missing f = sym (pending-missing (k .table .read) (law .named) i n (records (k .table .size) used xs) (sound-told _ _ used xs s .rise) f)
 
-  -- the record that is found
-  pub found : find-in i (map id-of (records (k .table .size) used xs)) ≡ At n → find i (pending-records k used xs) ≡ some (k .table .read (getD (records (k .table .size) used xs) n []))
-  unfolding pending-records
-  found f = pending-found (k .table .read) (law .named) i n (records (k .table .size) used xs) f
-
-  pub lost : find-in i (map id-of (records (k .table .size) used xs)) ≡ Gap n → find i (pending-records k used xs) ≡ none
-  unfolding pending-records
-  lost f = pending-lost (k .table .read) (law .named) i n (records (k .table .size) used xs) (sound-told _ _ used xs s .rise) f
-
   -- the record of i goes
   pub removed : (z : ℕ) (ys : List ℕ) → z ≡ k .table .size → T (areBytes ys) → find-in i (map id-of (records (k .table .size) used xs)) ≡ At n → ys ≡ laid z used (remove-at n (records z used xs)) xs
       → (used - 1 ≡ length (without i (pending-records k used xs))) × (ys ≡ lay-pending k (without i (pending-records k used xs)) xs)
@@ -126,51 +116,18 @@ module _ (i : Id) (used n : ℕ) (xs : List ℕ) (s : sound-table confirmed-size
   unfolding confirmed-records
   not-held f = sym (confirmed-not-held i n (records confirmed-size used xs) (sound-told _ _ used xs s .rise) h f)
 
-  -- where there is no record of i, its height is one record more
-  pub one-more : length i ≡ 32 → h < 256 ^ 4 → find-in i (map id-of (records confirmed-size used xs)) ≡ Gap n → length (become i h (confirmed-records used xs)) ≡ used + 1
-  unfolding confirmed-records insert-at
-  one-more l small f =
+  -- another height in the record of i
+  pub noted-again : (ys : List ℕ) → T (areBytes ys) → h < 256 ^ 4 → find-in i (map id-of (records confirmed-size used xs)) ≡ At n
+      → ys ≡ laid confirmed-size used (set (records confirmed-size used xs) n (with-field 32 h (getD (records confirmed-size used xs) n []))) xs
+      → ys ≡ lay-confirmed (become i h (confirmed-records used xs)) xs
+  unfolding confirmed-records lay-confirmed
+  noted-again ys b small f q =
+      let g = sound-told confirmed-size confirmed-most used xs s in
       let rs : List (List ℕ) = records confirmed-size used xs in
-      let new : Confirmed = record { id = i; height = h } in
+      let new : List ℕ = with-field 32 h (getD rs n []) in
+      let z : Sized confirmed-size rs = sized-records confirmed-size used xs (sound-room confirmed-size confirmed-most used xs g) in
       let many : length rs ≡ used = length-records confirmed-size used xs in
-      let m : n ≤ used = gap-used confirmed-size used n xs i f in
-      let more : length (insert-at n (confirmed-bytes new) rs) ≡ used + 1 = simp (length-append, length-take, length-drop) (omega arith) in
-      sym (ap length (confirmed-new i n rs (sound-told _ _ used xs s .rise) h (confirmed-bytes new) (confirmed-kept .back new (record { id = l; height = small })) f))
-      ∙ length-map (insert-at n (confirmed-bytes new) rs) confirmed-of
-      ∙ more
-
-  module _ (ys : List ℕ) (b : T (areBytes ys)) (small : h < 256 ^ 4) where
-    -- a new record
-    pub noted-new : length i ≡ 32 → length (become i h (confirmed-records used xs)) ≤ confirmed-capacity xs → find-in i (map id-of (records confirmed-size used xs)) ≡ Gap n
-        → ys ≡ laid confirmed-size (used + 1) (insert-at n (confirmed-bytes (record { id = i; height = h })) (records confirmed-size used xs)) xs
-        → (used + 1 ≡ length (become i h (confirmed-records used xs))) × (ys ≡ lay-confirmed (become i h (confirmed-records used xs)) xs)
-    unfolding confirmed-records lay-confirmed insert-at
-    noted-new l room f q =
-        let one = one-more l small f in
-        let g = sound-told confirmed-size confirmed-most used xs s in
-        let rs : List (List ℕ) = records confirmed-size used xs in
-        let new : Confirmed = record { id = i; height = h } in
-        let fine : ConfirmedFits new = record { id = l; height = small } in
-        let many : length rs ≡ used = length-records confirmed-size used xs in
-        let m : n ≤ used = gap-used confirmed-size used n xs i f in
-        let more : length (insert-at n (confirmed-bytes new) rs) ≡ used + 1 = simp (length-append, length-take, length-drop) (omega arith) in
-        passed confirmed-kept confirmed-most used (used + 1) (used + 1) (insert-at n (confirmed-bytes new) rs) _ xs ys s b (omega arith) (omega arith) (omega arith)
-        (sized-insert confirmed-size n (confirmed-bytes new) rs (confirmed-kept .sized new fine) (sized-records confirmed-size used xs (sound-room confirmed-size confirmed-most used xs g)))
-        (confirmed-new i n rs (g .rise) h (confirmed-bytes new) (confirmed-kept .back new fine) f) (sym more) q
-
-    -- another height in the record of i
-    pub noted-again : find-in i (map id-of (records confirmed-size used xs)) ≡ At n
-        → ys ≡ laid confirmed-size used (set (records confirmed-size used xs) n (with-field 32 h (getD (records confirmed-size used xs) n []))) xs
-        → (used ≡ length (become i h (confirmed-records used xs))) × (ys ≡ lay-confirmed (become i h (confirmed-records used xs)) xs)
-    unfolding confirmed-records lay-confirmed
-    noted-again f q =
-        let g = sound-told confirmed-size confirmed-most used xs s in
-        let rs : List (List ℕ) = records confirmed-size used xs in
-        let new : List ℕ = with-field 32 h (getD rs n []) in
-        let z : Sized confirmed-size rs = sized-records confirmed-size used xs (sound-room confirmed-size confirmed-most used xs g) in
-        let many : length rs ≡ used = length-records confirmed-size used xs in
-        let m : n < used = at-used confirmed-size used n xs i f in
-        let size : length new ≡ confirmed-size = length-with-field 32 h (getD rs n []) ∙ sized-at confirmed-size n rs z (omega arith) in
-        let as-many : length (set rs n new) ≡ used = length-set rs n new ∙ many in
-        passed confirmed-kept confirmed-most used used used (set rs n new) _ xs ys s b (omega arith) (g .fit) (omega arith) (sized-set confirmed-size n new rs size z)
-        (confirmed-again i n rs (g .rise) h z small f) (sym as-many) q
+      let m : n < used = at-used confirmed-size used n xs i f in
+      let size : length new ≡ confirmed-size = length-with-field 32 h (getD rs n []) ∙ sized-at confirmed-size n rs z (omega arith) in
+      edited confirmed-kept confirmed-most used used (set rs n new) _ xs ys s b (omega arith) (g .fit) (omega (arith, length-set rs n new)) (sized-set confirmed-size n new rs size z)
+      (confirmed-again i n rs (g .rise) h z small f) q

@@ -2,9 +2,9 @@
 use mathlib.Core.Path.{_≡_, refl, sym, ap, ap₂, subst, _∙_}
 use mathlib.Core.Bool.{Bool, true, false, cond}
 use mathlib.Core.List.{List, [], _∷_, map}
-use Prim.Native.Nat.{ℕ, suc, _+_, _^_, _≤_, _<_}
+use Prim.Native.Nat.{ℕ, _+_, _^_, _≤_, _<_}
 use native.Mathlib.Omega.{arith}
-use lib.ListN.{length, take, length-map}
+use lib.ListN.{length, length-map}
 use lib.Seq.{take-at}
 use Rattle.kinds.specs.declared.State.{State}
 use Rattle.rules.specs.Lists.{insert}
@@ -58,7 +58,7 @@ merged-bytes none g = refl
 merged-bytes (more {a = n} {l = ns} h hs) g =
     ap (insert (λ a b. below (id-of a) (id-of b)) (confirmed-bytes n)) (merged-bytes hs g) ∙ into-bytes n h (all-merged hs g)
 
-pub length-merged : (ns cs : List Confirmed) → length (merged (λ c. c .id) ns cs) ≡ length ns + length cs
+length-merged : (ns cs : List Confirmed) → length (merged (λ c. c .id) ns cs) ≡ length ns + length cs
 unfolding merged
 length-merged [] cs = omega arith
 length-merged (n ∷ ns) cs = length-insert _ n (merged (λ c. c .id) ns cs) ∙ omega (arith, length-merged ns cs)

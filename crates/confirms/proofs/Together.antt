@@ -6,7 +6,6 @@ use Prim.Native.Nat.{ℕ, _+_, _-_, _^_, _≤_, _<_}
 use native.Mathlib.Omega.{arith}
 use lib.Dec.{eqb}
 use lib.ListN.{length, take, drop}
-use lib.Ieee.{Float}
 use Rattle.kinds.specs.declared.State.{State}
 use Rattle.kinds.specs.Answers.{done}
 use Rattle.rules.specs.Lists.{count}
@@ -15,7 +14,7 @@ use Rattle.rules.specs.Counts.{places-of-counts}
 use Rattle.rules.specs.Records.{records, id-of, sound-table, laid}
 use Rattle.rules.specs.Board.{Board, Lawful, Pending, Confirmed, pending-most, confirmed-size, confirmed-most}
 use Rattle.rules.specs.Estimator.{Estimator, confirm-all}
-use Rattle.rules.specs.Memory.{Lent, lent, pending-records, confirmed-records, confirmed-capacity, lay-pending, lay-confirmed, view, state-of, lay}
+use Rattle.rules.specs.Memory.{Lent, lent, pending-records, confirmed-records, confirmed-capacity, lay-confirmed, view, state-of, lay}
 use Rattle.rules.specs.Calls.{outcome, accepted, ids-of}
 use Rattle.rules.proofs.All.{All, all-keep}
 use Rattle.rules.proofs.Records.{length-records}
@@ -23,7 +22,7 @@ use Rattle.rules.proofs.Memory.{pending-length}
 use Rattle.rules.proofs.Room.{length-keep}
 use Rattle.rules.proofs.Well.{WellPending}
 use Rattle.batch.specs.Needed.{listed}
-use Rattle.batch.specs.Batch.{gains, in-time, unresolved, at-height, raised, fresh-of, merged, marked, unmarked, counted, batch}
+use Rattle.batch.specs.Batch.{gains, in-time, unresolved, at-height, raised, fresh-of, merged, unmarked, counted, batch}
 use Rattle.batch.specs.Picked.{picked}
 use Rattle.batch.proofs.Batch.{confirm-all-is}
 use Rattle.batch.proofs.Listing.{ids-none}

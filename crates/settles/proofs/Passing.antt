@@ -1,13 +1,13 @@
 -- The marked records are settled one after the other: what is settled of the first i is the batch of them. Assumes nothing.
 use mathlib.Core.Path.{_≡_, refl, sym, ap, ap₂, subst, _∙_}
 use mathlib.Core.Bool.{Bool, true, false, not, _&&_, cond}
-use mathlib.Core.List.{List, [], _∷_, _++_, map, append-nil}
-use Prim.Native.Nat.{ℕ, suc, _+_, _^_, _≤_, _<_}
+use mathlib.Core.List.{List, [], _∷_, _++_, append-nil}
+use Prim.Native.Nat.{ℕ, _+_, _^_, _≤_, _<_}
 use native.Mathlib.Nat.{add-zero}
 use native.Mathlib.Numerals.{add-one}
 use native.Mathlib.Omega.{arith}
 use lib.Dec.{eqb}
-use lib.ListN.{length, getD, take, drop, set, length-map, length-set, List·getD-map}
+use lib.ListN.{length, getD, take, drop, set, length-set, List·getD-map}
 use lib.Seq.{getD-set-same, take-set-le, drop-set-lt, getD-drop, drop-drop, take-all}
 use borrow.Author.Tests.{eq-eqb, ne-eqb}
 use Rattle.kinds.specs.declared.State.{State}
@@ -16,25 +16,23 @@ use Rattle.rules.specs.Ids.{Id, below}
 use Rattle.rules.specs.Ladder.{last-bucket}
 use Rattle.rules.specs.Counts.{Counts, places-of-counts, gain}
 use Rattle.rules.specs.Records.{records, sound-table}
-use Rattle.rules.specs.Board.{Board, Lawful, Pending, Confirmed, pending-most, confirmed-size, confirmed-most, confirmed-of}
+use Rattle.rules.specs.Board.{Board, Lawful, Pending, Confirmed, pending-most, confirmed-size, confirmed-most}
 use Rattle.rules.specs.Estimator.{is-pending, holds}
-use Rattle.rules.specs.Memory.{Lent, lent, pending-records, confirmed-records, confirmed-capacity, lay-confirmed, view, lay}
-use Rattle.rules.proofs.All.{All, none, more, all-map}
+use Rattle.rules.specs.Memory.{Lent, pending-records, confirmed-records, lay-confirmed, view}
+use Rattle.rules.proofs.All.{All, none, more}
 use Rattle.rules.proofs.Ids.{below-apart}
-use Rattle.rules.proofs.Records.{length-records}
-use Rattle.rules.proofs.Memory.{ConfirmedFits, confirmed-kept, pending-length, there, over}
-use Rattle.rules.proofs.Sound.{laid-sound, confirmed-id}
+use Rattle.rules.proofs.Memory.{pending-length}
 use Rattle.rules.proofs.Well.{WellPending}
 use Rattle.lists.proofs.Lists.{keep-append}
 use Rattle.batch.specs.Batch.{gains, in-time, unresolved, is-confirmed, raised, fresh-of, counted}
 use Rattle.batch.specs.Picked.{picked}
 use Rattle.batch.proofs.Batch.{none-raised}
-use Rattle.batch.proofs.Merging.{holds-raised, raised-confirmed, up-raised}
+use Rattle.batch.proofs.Merging.{holds-raised, raised-confirmed}
 use Rattle.batch.proofs.Picked.{all-picked, picked-take, picked-back}
 use Rattle.batch.proofs.Rising.{all-at, under-at}
 use Rattle.batch.proofs.Settling.{raised-next}
 use Rattle.ready.specs.Ready.{Ready}
-use Rattle.ready.proofs.Facts.{confirmed-places, resolved-places, pending-sound, used-recent, Long, long-same, long-after}
+use Rattle.ready.proofs.Facts.{confirmed-places, resolved-places, pending-sound, Long, long-same, long-after}
 use Rattle.settles.specs.Settled.{Settled, AllSettled}
 use Rattle.settles.proofs.Raised.{raised-none, raised-sound, raised-seen, raised-over}
 

@@ -69,7 +69,7 @@ module _ (i : Id) (used n : ℕ) (xs : List ℕ) (s : sound-table confirmed-size
   looked-older ys b small f old e q w =
       let h : holds i B cs ≡ false = sym (held i used n xs s B f old e) ∙ ne-eqb old B q in
       let k : renewed B i cs ≡ become i B cs = renewed-is B some-of cs ∙ raised-become B some-of up (there f) in
-      (sym (ap₂ (λ (t u : Bool). cond t 0 (cond u 2 1)) h (there f)), noted-again i used n xs s B ys b small f w .1 ∙ ap (λ (l : List Confirmed). lay-confirmed l xs) (sym k))
+      (sym (ap₂ (λ (t u : Bool). cond t 0 (cond u 2 1)) h (there f)), noted-again i used n xs s B ys b small f w ∙ ap (λ (l : List Confirmed). lay-confirmed l xs) (sym k))
 
   -- there is none
   pub looked-none : T (areBytes xs) → find-in i (map id-of bs) ≡ Gap n → (1 ≡ looked B i cs) × (xs ≡ lay-confirmed (renewed B i cs) xs)

@@ -1,5 +1,5 @@
 -- `confirms::confirm_all` meets its contract. Assumes nothing.
-use mathlib.Core.Path.{_≡_, _∙_}
+use mathlib.Core.Path.{_≡_}
 use mathlib.Core.Bool.{true}
 use Prim.Native.Nat.{_^_, _≤_, _<_}
 use native.Mathlib.Omega.{arith}
@@ -18,7 +18,7 @@ use Rattle.confirms.proofs.confirm_all.Statement.{statement}
 use Rattle.confirms.proofs.confirm_all.Tie as tie
 
 returns : tie.Need-returns
-returns c = let s = c .before .before .before .before .before .before in nothing-listed (board-of (s .args .on)) (board-lawful (s .args .on)) _ _ _ _ (s .pre .0) (c .if1 .taken)
+returns c = let s = c .before .before .before .before .before .before in nothing-listed (board-of (s .args .on)) (board-lawful (s .args .on)) _ _ _ _ (s .pre .0) (omega (arith, c .if1 .taken))
 
 -- ---- the function's start, and what it gives
 

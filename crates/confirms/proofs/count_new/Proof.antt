@@ -25,7 +25,7 @@ loop-again c =
     let s = c .before .before .before .before in
     let i = c .before .before .loop-test .taken in
     let m = getD (now (s .args .marks)) (g .i) 0 in
-    step _ _ (c .if1 .n) (eqb m 1) (g .inv) i (⊎-elim (λ w. omega (arith, ap bit (eq-eqb m 1 (w .0 .taken)))) (λ w. omega (arith, ap bit (ne-eqb m 1 (w .0 .left)))) (c .if1 .came))
+    step _ _ (c .if1 .n) (eqb m 1) (g .inv) i (⊎-elim (λ w. omega (arith, ap bit (eq-eqb m 1 (omega (arith, w .0 .taken))))) (λ w. omega (arith, ap bit (ne-eqb m 1 (λ e. omega (arith, w .0 .left))))) (c .if1 .came))
     (mark-next _ _ (g .i) i (s .pre))
 
 pub count-new-spec : {M : Type 1} → statement M

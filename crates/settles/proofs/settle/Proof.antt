@@ -38,7 +38,7 @@ returns : tie.Need-returns
 returns c =
     let n = c .before .before .before .before .before .before in
     let e = c .before .before .before .renew .ensures in
-    settled-held _ _ (rec (start n)) _ (its n) _ _ _ _ _ _ (e .0) (e .1) (c .if1 .taken)
+    settled-held _ _ (rec (start n)) _ (its n) _ _ _ _ _ _ (e .0) (e .1) (omega (arith, c .if1 .taken))
 
 -- its fields
 read-of : (n : tie.After-record-size) → let a = start n .args in pending-of (getD (records (n .record-size .result) (a .used) (now (a .pending))) (a .i) []) ≡ rec (start n)
@@ -63,7 +63,7 @@ returns-2 c =
     let e = c .before .before .before .before .before .before .before .before .before .before .before .renew .ensures in
     let p = c .before .before .before .before .before .pending-at .ensures in
     let k = c .before .before .before .before .count .ensures in
-    settled-counted _ _ (rec (start n)) _ (its n) _ _ _ _ _ _ (e .0) (e .1) (c .before .before .before .before .before .before .before .before .if1 .left) _ _ _
+    settled-counted _ _ (rec (start n)) _ (its n) _ _ _ _ _ _ (e .0) (e .1) (λ z. omega (arith, c .before .before .before .before .before .before .before .before .if1 .left)) _ _ _
     (p .0 ∙ ap (λ (q : Pending). q .bucket) (read-of n)) (p .1 .0 ∙ ap (λ (q : Pending). q .entry) (read-of n)) (p .1 .1 ∙ ap (λ (q : Pending). q .through) (read-of n)) _ _ (k .0) (k .1)
 
 pub settle-spec : {M : Type 1} → statement M
