@@ -2,32 +2,31 @@
 use mathlib.Core.Path.{_≡_, sym, ap, subst, _∙_}
 use mathlib.Core.Bool.{true, false}
 use mathlib.Core.List.{List, [], map}
-use mathlib.Core.Option.{none, some}
 use Prim.Native.Nat.{ℕ, _+_, _-_, _*_, _^_, _≤_, _<_}
 use native.Mathlib.Omega.{arith}
 use lib.Dec.{T, eqb}
-use lib.ListN.{length, getD, set, length-map, length-append, length-take, length-drop, length-set}
+use lib.ListN.{length, take, drop, getD, set, length-map, length-append, length-take, length-drop, length-set}
 use lib.Pow.{areBytes}
 use Rattle.rules.specs.Ids.{Id, rising}
 use Rattle.rules.specs.Records.{records, id-of, sound-table, laid}
-use Rattle.rules.specs.Board.{Board, Lawful, Confirmed, pending-most, confirmed-size, confirmed-most, confirmed-of, confirmed-bytes}
-use Rattle.rules.specs.Estimator.{is-pending, find, without, holds, become}
-use Rattle.rules.specs.Memory.{pending-records, confirmed-records, confirmed-capacity, lay-pending, lay-confirmed}
+use Rattle.rules.specs.Board.{Board, Lawful, pending-most, confirmed-size, confirmed-most, confirmed-of}
+use Rattle.rules.specs.Estimator.{is-pending, without, holds, become}
+use Rattle.rules.specs.Memory.{pending-records, confirmed-records, lay-pending, lay-confirmed}
 use Rattle.rules.proofs.Ids.{dropped-absent}
 use Rattle.rules.proofs.Records.{Sized, length-records, sized-records}
-use Rattle.rules.proofs.Memory.{confirmed-kept, ConfirmedFits, own}
+use Rattle.rules.proofs.Memory.{confirmed-kept, own}
 use Rattle.ids.specs.Search.{find-in}
-use Rattle.table.specs.Edit.{insert-at, remove-at}
+use Rattle.table.specs.Edit.{remove-at}
 use Rattle.table.specs.Fields.{with-field}
 use Rattle.ids.specs.declared.Found.{Found}
 use Rattle.ids.specs.declared.Found.the-variants.{At, Gap}
 use Rattle.table.proofs.Fields.{length-with-field}
-use Rattle.ids.proofs.Records.{length-ids}
-use Rattle.table.proofs.Records.{sized-insert, sized-remove, sized-set, sized-at}
+use Rattle.ids.proofs.Records.{length-ids, record-end, id-at}
+use Rattle.table.proofs.Records.{sized-remove, sized-set, sized-at}
 use Rattle.ids.proofs.Search.{at-told, gap-told}
 use Rattle.table.proofs.Sound.{sound-told, sound-room}
-use Rattle.table.proofs.Edited.{passed}
-use Rattle.table.proofs.Steps.{pending-missing, pending-there, pending-found, pending-lost, pending-without, confirmed-not-held, confirmed-held, confirmed-new, confirmed-again}
+use Rattle.table.proofs.Edited.{edited, passed}
+use Rattle.table.proofs.Steps.{pending-missing, pending-there, pending-without, confirmed-not-held, confirmed-held, confirmed-again}
 
 -- ---- any table
 
@@ -51,12 +50,27 @@ at-used size used n xs i f = let t = at-told i (map id-of (records size used xs)
 pub gap-used : (size used n : ℕ) (xs : List ℕ) (i : Id) → find-in i (map id-of (records size used xs)) ≡ Gap n → n ≤ used
 gap-used size used n xs i f = let t = gap-told i (map id-of (records size used xs)) n f in omega (arith, t .within, length-ids size used xs)
 
+-- the records are within the bytes
+pub within-bytes : (n m most used : ℕ) (xs : List ℕ) → n ≡ m → sound-table m most used xs ≡ true → used * n ≤ length xs
+within-bytes n m most used xs q s = subst (λ (x : ℕ). used * x ≤ length xs) (sym q) (sound-room m most used xs (sound-told m most used xs s))
+
 -- what reading or changing the record that is found asks
 pub in-table : (n m most used j : ℕ) (xs : List ℕ) (i : Id) → n ≡ m → sound-table m most used xs ≡ true → find-in i (map id-of (records m used xs)) ≡ At j → (j < used) × (used * n ≤ length xs)
-in-table n m most used j xs i q s f =
-    (at-used m used j xs i f, subst (λ (x : ℕ). used * x ≤ length xs) (sym q) (sound-room m most used xs (sound-told m most used xs s)))
+in-table n m most used j xs i q s f = (at-used m used j xs i f, within-bytes n m most used xs q s)
+
+-- the id of record number i stands within the bytes
+pub id-within : (n m most used i : ℕ) (xs : List ℕ) → n ≡ m → 32 ≤ n → i < used → sound-table m most used xs ≡ true → i * n + 32 ≤ length xs
+id-within n m most used i xs q h l s = omega (arith, within-bytes n m most used xs q s, record-end n used i l)
 
 -- ---- the pending table
+
+-- the part of the bytes that is lent as the id of record number i
+pub lent-id : (k : Board) → Lawful k → (n used i : ℕ) (xs : List ℕ) → n ≡ k .table .size → 32 ≤ n → i < used
+    → take (i * n + 32 - i * n) (drop (i * n) xs) ≡ k .table .read (getD (records (k .table .size) used xs) i []) .id
+lent-id k law n used i xs q h l =
+    let m : i * n + 32 - i * n ≡ 32 = omega arith in
+    ap (λ (m : ℕ). take m (drop (i * n) xs)) m
+    ∙ sym (law .named (getD (records (k .table .size) used xs) i []) ∙ ap (λ (z : ℕ). id-of (getD (records z used xs) i [])) (sym q) ∙ id-at n used i xs h l)
 
 module _ (k : Board) (law : Lawful k) (i : Id) (used n : ℕ) (xs : List ℕ) (s : sound-table (k .table .size) pending-most used xs ≡ true) where
   pub there : find-in i (map id-of (records (k .table .size) used xs)) ≡ At n → true ≡ is-pending i (pending-records k used xs)
@@ -66,15 +80,6 @@ module _ (k : Board) (law : Lawful k) (i : Id) (used n : ℕ) (xs : List ℕ) (s
   pub missing : find-in i (map id-of (records (k .table .size) used xs)) ≡ Gap n → false ≡ is-pending i (pending-records k used xs)
   unfolding pending-records
   missing f = sym (pending-missing (k .table .read) (law .named) i n (records (k .table .size) used xs) (sound-told _ _ used xs s .rise) f)
-
-  -- the record that is found
-  pub found : find-in i (map id-of (records (k .table .size) used xs)) ≡ At n → find i (pending-records k used xs) ≡ some (k .table .read (getD (records (k .table .size) used xs) n []))
-  unfolding pending-records
-  found f = pending-found (k .table .read) (law .named) i n (records (k .table .size) used xs) f
-
-  pub lost : find-in i (map id-of (records (k .table .size) used xs)) ≡ Gap n → find i (pending-records k used xs) ≡ none
-  unfolding pending-records
-  lost f = pending-lost (k .table .read) (law .named) i n (records (k .table .size) used xs) (sound-told _ _ used xs s .rise) f
 
   -- the record of i goes
   pub removed : (z : ℕ) (ys : List ℕ) → z ≡ k .table .size → T (areBytes ys) → find-in i (map id-of (records (k .table .size) used xs)) ≡ At n → ys ≡ laid z used (remove-at n (records z used xs)) xs
@@ -111,51 +116,18 @@ module _ (i : Id) (used n : ℕ) (xs : List ℕ) (s : sound-table confirmed-size
   unfolding confirmed-records
   not-held f = sym (confirmed-not-held i n (records confirmed-size used xs) (sound-told _ _ used xs s .rise) h f)
 
-  -- where there is no record of i, its height is one record more
-  pub one-more : length i ≡ 32 → h < 256 ^ 4 → find-in i (map id-of (records confirmed-size used xs)) ≡ Gap n → length (become i h (confirmed-records used xs)) ≡ used + 1
-  unfolding confirmed-records insert-at
-  one-more l small f =
+  -- another height in the record of i
+  pub noted-again : (ys : List ℕ) → T (areBytes ys) → h < 256 ^ 4 → find-in i (map id-of (records confirmed-size used xs)) ≡ At n
+      → ys ≡ laid confirmed-size used (set (records confirmed-size used xs) n (with-field 32 h (getD (records confirmed-size used xs) n []))) xs
+      → ys ≡ lay-confirmed (become i h (confirmed-records used xs)) xs
+  unfolding confirmed-records lay-confirmed
+  noted-again ys b small f q =
+      let g = sound-told confirmed-size confirmed-most used xs s in
       let rs : List (List ℕ) = records confirmed-size used xs in
-      let new : Confirmed = record { id = i; height = h } in
+      let new : List ℕ = with-field 32 h (getD rs n []) in
+      let z : Sized confirmed-size rs = sized-records confirmed-size used xs (sound-room confirmed-size confirmed-most used xs g) in
       let many : length rs ≡ used = length-records confirmed-size used xs in
-      let m : n ≤ used = gap-used confirmed-size used n xs i f in
-      let more : length (insert-at n (confirmed-bytes new) rs) ≡ used + 1 = simp (length-append, length-take, length-drop) (omega arith) in
-      sym (ap length (confirmed-new i n rs (sound-told _ _ used xs s .rise) h (confirmed-bytes new) (confirmed-kept .back new (record { id = l; height = small })) f))
-      ∙ length-map (insert-at n (confirmed-bytes new) rs) confirmed-of
-      ∙ more
-
-  module _ (ys : List ℕ) (b : T (areBytes ys)) (small : h < 256 ^ 4) where
-    -- a new record
-    pub noted-new : length i ≡ 32 → length (become i h (confirmed-records used xs)) ≤ confirmed-capacity xs → find-in i (map id-of (records confirmed-size used xs)) ≡ Gap n
-        → ys ≡ laid confirmed-size (used + 1) (insert-at n (confirmed-bytes (record { id = i; height = h })) (records confirmed-size used xs)) xs
-        → (used + 1 ≡ length (become i h (confirmed-records used xs))) × (ys ≡ lay-confirmed (become i h (confirmed-records used xs)) xs)
-    unfolding confirmed-records lay-confirmed insert-at
-    noted-new l room f q =
-        let one = one-more l small f in
-        let g = sound-told confirmed-size confirmed-most used xs s in
-        let rs : List (List ℕ) = records confirmed-size used xs in
-        let new : Confirmed = record { id = i; height = h } in
-        let fine : ConfirmedFits new = record { id = l; height = small } in
-        let many : length rs ≡ used = length-records confirmed-size used xs in
-        let m : n ≤ used = gap-used confirmed-size used n xs i f in
-        let more : length (insert-at n (confirmed-bytes new) rs) ≡ used + 1 = simp (length-append, length-take, length-drop) (omega arith) in
-        passed confirmed-kept confirmed-most used (used + 1) (used + 1) (insert-at n (confirmed-bytes new) rs) _ xs ys s b (omega arith) (omega arith) (omega arith)
-        (sized-insert confirmed-size n (confirmed-bytes new) rs (confirmed-kept .sized new fine) (sized-records confirmed-size used xs (sound-room confirmed-size confirmed-most used xs g)))
-        (confirmed-new i n rs (g .rise) h (confirmed-bytes new) (confirmed-kept .back new fine) f) (sym more) q
-
-    -- another height in the record of i
-    pub noted-again : find-in i (map id-of (records confirmed-size used xs)) ≡ At n
-        → ys ≡ laid confirmed-size used (set (records confirmed-size used xs) n (with-field 32 h (getD (records confirmed-size used xs) n []))) xs
-        → (used ≡ length (become i h (confirmed-records used xs))) × (ys ≡ lay-confirmed (become i h (confirmed-records used xs)) xs)
-    unfolding confirmed-records lay-confirmed
-    noted-again f q =
-        let g = sound-told confirmed-size confirmed-most used xs s in
-        let rs : List (List ℕ) = records confirmed-size used xs in
-        let new : List ℕ = with-field 32 h (getD rs n []) in
-        let z : Sized confirmed-size rs = sized-records confirmed-size used xs (sound-room confirmed-size confirmed-most used xs g) in
-        let many : length rs ≡ used = length-records confirmed-size used xs in
-        let m : n < used = at-used confirmed-size used n xs i f in
-        let size : length new ≡ confirmed-size = length-with-field 32 h (getD rs n []) ∙ sized-at confirmed-size n rs z (omega arith) in
-        let as-many : length (set rs n new) ≡ used = length-set rs n new ∙ many in
-        passed confirmed-kept confirmed-most used used used (set rs n new) _ xs ys s b (omega arith) (g .fit) (omega arith) (sized-set confirmed-size n new rs size z)
-        (confirmed-again i n rs (g .rise) h z small f) (sym as-many) q
+      let m : n < used = at-used confirmed-size used n xs i f in
+      let size : length new ≡ confirmed-size = length-with-field 32 h (getD rs n []) ∙ sized-at confirmed-size n rs z (omega arith) in
+      edited confirmed-kept confirmed-most used used (set rs n new) _ xs ys s b (omega arith) (g .fit) (omega (arith, length-set rs n new)) (sized-set confirmed-size n new rs size z)
+      (confirmed-again i n rs (g .rise) h z small f) q

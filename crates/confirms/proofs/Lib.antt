@@ -1,6 +1,10 @@
 -- Laws of a block's list.
 
--- one listed id
-pub mod Stepped
--- the list
-pub mod Listing
+-- the marks of the listed records
+pub mod Marked
+-- counts lent beyond the 3,550
+pub mod Gained
+-- the tables
+pub mod Tables
+-- all of it
+pub mod Together

@@ -42,11 +42,6 @@ sized-new : (B : ℕ) (i : Id) → length i ≡ 32 → length (confirmed-bytes (
 unfolding confirmed-bytes
 sized-new B i h = length-append i (bytes 4 B) ∙ omega (arith, length-bytes 4 B)
 
--- its two fields, put one after the other
-pub put-fields : (s : List ℕ) (at B : ℕ) (i : Id) → length i ≡ 32 → sets (sets s at i) (at + 32) (bytes 4 B) ≡ sets s at (confirmed-bytes (record { id = i; height = B }))
-unfolding confirmed-bytes
-put-fields s at B i l = sym (sets-append s at i (bytes 4 B) ∙ ap (λ (n : ℕ). sets (sets s at i) (at + n) (bytes 4 B)) l)
-
 -- ---- a record that went in
 
 module _ (m i n k : ℕ) (a : List ℕ) where
@@ -80,6 +75,14 @@ module _ (m i n k : ℕ) (a : List ℕ) where
         back = ap (drop (i + k)) now ∙ drop-at (take (i + k) R) (r ∷ (slice i n R ++ drop (n + suc k) R)) (i + k) head
             ∙ ap (λ (rs : List (List ℕ)). r ∷ (drop i rs ++ drop (n + suc k) R)) (take-records confirmed-size n m a (omega arith));
       }
+
+-- its two fields are put one after the other, where the block has moved up
+pub put-in : (i n left B : ℕ) (id : Id) (a b c d : List ℕ) → length id ≡ 32 → b ≡ shifted-up (i * confirmed-size) (n * confirmed-size) (left * confirmed-size) a
+    → c ≡ sets b ((i + left - 1) * confirmed-size) id → d ≡ sets c ((i + left - 1) * confirmed-size + 32) (bytes 4 B) → d ≡ opened i n left (confirmed-bytes (record { id = id; height = B })) a
+unfolding opened confirmed-bytes
+put-in i n left B id a b c d l p q r =
+    let at : ℕ = (i + left - 1) * confirmed-size in
+    r ∙ ap₂ (λ (z : List ℕ) (w : ℕ). sets z (at + w) (bytes 4 B)) (q ∙ ap (λ (z : List ℕ). sets z at id) p) (sym l) ∙ sym (sets-append _ at id (bytes 4 B))
 
 -- ---- the loop
 

@@ -1,24 +1,21 @@
 -- A pending record that makes one confirmed record more, as the code finds it out: by its mark, by what the skipped heights leave, and by a search for its id
 -- among the confirmed records. Assumes nothing.
-use mathlib.Core.Path.{_≡_, refl, sym, ap, ap₂, subst, _∙_}
+use mathlib.Core.Path.{_≡_, refl, sym, ap, ap₂, _∙_}
 use mathlib.Core.Bool.{Bool, true, false, not, _&&_, _||_}
 use mathlib.Core.List.{List, [], _∷_, map}
-use Prim.Native.Nat.{ℕ, _+_, _-_, _*_, _≤_, _<_}
+use Prim.Native.Nat.{ℕ}
 use native.Mathlib.Nat.{zero-add}
-use native.Mathlib.Omega.{arith}
 use lib.Dec.{leb, eqb}
-use lib.ListN.{length, take, drop, getD}
+use lib.ListN.{getD}
 use borrow.Author.Tests.{eq-eqb, ne-eqb}
 use Rattle.kinds.specs.declared.Last.{Last}
 use Rattle.rules.specs.Lists.{any}
 use Rattle.rules.specs.Ids.{Id, same, rising}
-use Rattle.rules.specs.Records.{records, id-of, sound-table}
-use Rattle.rules.specs.Board.{Board, Lawful, Pending, Confirmed, confirmed-size, confirmed-of}
+use Rattle.rules.specs.Records.{records, id-of}
+use Rattle.rules.specs.Board.{Board, Pending, Confirmed, confirmed-size, confirmed-of}
 use Rattle.rules.specs.Memory.{confirmed-records}
 use Rattle.ids.specs.Search.{find-in}
 use Rattle.ids.specs.declared.Found.the-variants.{At, Gap}
-use Rattle.ids.proofs.Records.{record-end, id-at}
-use Rattle.table.proofs.Sound.{sound-told, sound-room}
 use Rattle.table.proofs.View.{gap-test, at-test}
 use Rattle.room.specs.Room.{lasts-through, least-height, held-above, comes-new}
 
@@ -44,22 +41,6 @@ module _ (least : ℕ) (i : Id) (used n : ℕ) (xs : List ℕ) (up : rising (map
 
   pub held-nowhere : find-in i (map id-of (records confirmed-size used xs)) ≡ Gap n → false ≡ held-above least (confirmed-records used xs) i
   held-nowhere f = sym (seen ∙ gap-test id-of high i n (records confirmed-size used xs) up f)
-
--- ---- its id
-
--- it stands within the bytes; the code has a record's size as a number n that it has asked for
-pub id-within : (n m most used i : ℕ) (xs : List ℕ) → n ≡ m → 32 ≤ n → i < used → sound-table m most used xs ≡ true → i * n + 32 ≤ length xs
-id-within n m most used i xs q h l s =
-    let r : used * n ≤ length xs = subst (λ (z : ℕ). used * z ≤ length xs) (sym q) (sound-room m most used xs (sound-told m most used xs s)) in
-    omega (arith, record-end n used i l)
-
--- the part of the bytes that is lent as its id
-pub lent-id : (k : Board) → Lawful k → (n used i : ℕ) (xs : List ℕ) → n ≡ k .table .size → 32 ≤ n → i < used
-    → take (i * n + 32 - i * n) (drop (i * n) xs) ≡ k .table .read (getD (records (k .table .size) used xs) i []) .id
-lent-id k law n used i xs q h l =
-    let m : i * n + 32 - i * n ≡ 32 = omega arith in
-    ap (λ (m : ℕ). take m (drop (i * n) xs)) m
-    ∙ sym (law .named (getD (records (k .table .size) used xs) i []) ∙ ap (λ (z : ℕ). id-of (getD (records z used xs) i [])) (sym q) ∙ id-at n used i xs h l)
 
 -- ---- what it comes to
 

@@ -45,11 +45,11 @@ module _ (left : ℕ → ℕ) (used : ℕ) where
 -- ---- what is left, of those that pass a test
 
 module _ {A : Type 0} (p : A → Bool) (xs : List A) where
-  count-next : (i : ℕ) (d : A) → i < length xs → count p (drop i xs) ≡ bit (p (getD xs i d)) + count p (drop (i + 1) xs)
+  pub count-next : (i : ℕ) (d : A) → i < length xs → count p (drop i xs) ≡ bit (p (getD xs i d)) + count p (drop (i + 1) xs)
   unfolding count
   count-next i d h = rw (add-one, drop-cons xs i d h)
 
-  count-end : (i : ℕ) → length xs ≤ i → count p (drop i xs) ≡ 0
+  pub count-end : (i : ℕ) → length xs ≤ i → count p (drop i xs) ≡ 0
   unfolding count
   count-end i h = rw (drop-of-length-le xs {i = i} h)
 

@@ -25,7 +25,7 @@ ghost use Rattle.rules.specs.Calls.{ids-of};
 ghost use Rattle.batch.specs.Needed.{needed};
 
 // A mark for each pending record that there may be: none is marked.
-fn no_marks() -> [u8; MAX_PENDING_ENTRIES]
+pub fn no_marks() -> [u8; MAX_PENDING_ENTRIES]
     ensures { λ r. ⌜ r ≡ replicate pending-most 0 ⌝ }
 {
     [0u8; MAX_PENDING_ENTRIES]

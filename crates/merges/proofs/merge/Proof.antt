@@ -45,7 +45,7 @@ loop-again : tie.Need-loop-again Inv-loop μ-loop
 loop-again c =
     let n = c .before .before .before .before .before .before .before in
     let p = c .before .before .place in
-    merging-turn _ _ _ _ _ _ _ _ (n .before .before .before .before .before .pre) (n .before .loop .inv) _ (next n) _ (omega (arith, n .loop-test .taken)) (c .before .before .before .before .before .if1 .taken) _ _ (p .ensures .0) (p .ensures .1)
+    merging-turn _ _ _ _ _ _ _ _ (n .before .before .before .before .before .pre) (n .before .loop .inv) _ (next n) _ (omega (arith, n .loop-test .taken)) (omega (arith, c .before .before .before .before .before .if1 .taken)) _ _ (p .ensures .0) (p .ensures .1)
 
 loop-again-2 : tie.Need-loop-again-2 Inv-loop μ-loop
 loop-again-2 c = (let n = c .before .before in merging-skip _ _ _ _ _ _ _ _ (n .before .before .before .before .before .pre) (n .before .loop .inv) _ (next n) (c .if1 .left))

@@ -14,7 +14,8 @@ use Rattle.rules.specs.Memory.{confirmed-records}
 use Rattle.rules.proofs.Boards.{board-lawful}
 use Rattle.table.proofs.Sound.{sound-told, sound-room}
 use Rattle.room.specs.Room.{lasts-through}
-use Rattle.room.proofs.Adding.{id-within, lent-id, unmarked, expired, lasting}
+use Rattle.by_id.proofs.ById.{id-within, lent-id}
+use Rattle.room.proofs.Adding.{unmarked, expired, lasting}
 use Rattle.room.proofs.count.adds_one.Statement.{statement}
 use Rattle.room.proofs.count.adds_one.Tie as tie
 

@@ -1,11 +1,11 @@
--- `confirms::step::count` meets its contract. Assumes nothing.
+-- `settles::count` meets its contract. Assumes nothing.
 use mathlib.Core.Path.{ap₂, _∙_}
 use Prim.Native.Nat.{ℕ, _*_}
 use lib.Dec.{leb}
 use Rattle.rules.proofs.Counting.{gain-agree}
 use borrow.Author.Needs.{needs}
-use Rattle.confirms.proofs.step.count.Statement.{statement}
-use Rattle.confirms.proofs.step.count.Tie as tie
+use Rattle.settles.proofs.count.Statement.{statement}
+use Rattle.settles.proofs.count.Tie as tie
 
 returns : tie.Need-returns
 returns c =

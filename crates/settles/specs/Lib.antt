@@ -1,0 +1,4 @@
+-- Listed pending records, settled.
+
+-- what settling one leaves, and all
+pub mod Settled
