@@ -47,7 +47,7 @@ pub fn mark_listed(table: &[u8], size: usize, used: usize, ids: &[u8], marks: &m
     }
 }
 
-// One turn of `drop_marked`: where record `i` stays it becomes record `k`, and the answer is the next `k`.
+// One turn of `drop_marked`: where record `i` stays it becomes record `k`, moved only if it is not that already, and the answer is the next `k`.
 fn keep_one(table: &mut [u8], size: usize, k: usize, i: usize, mark: u8) -> usize
     requires { ⌜ (32 ≤ size) × ((k ≤ i) × (i * size + size ≤ length (now table))) ⌝ }
     ensures { λ r. ⌜ Moved (λ _. eqb mark 0) size k i (now (table .entry)) (now (table .exit)) r ⌝ }
@@ -55,10 +55,8 @@ fn keep_one(table: &mut [u8], size: usize, k: usize, i: usize, mark: u8) -> usiz
     if mark == 0 {
         if k < i {
             mem::shift_down(table, k * size, i * size - k * size, size);
-            k + 1
-        } else {
-            k + 1
         }
+        k + 1
     } else {
         k
     }
