@@ -1,4 +1,4 @@
--- Laws of four little-endian bytes. Assumes nothing.
+-- Laws of four bytes as a number. Assumes nothing.
 use mathlib.Core.Path.{_≡_, refl, sym, ap, _∙_}
 use mathlib.Core.List.{List}
 use Prim.Native.Nat.{ℕ, suc, _+_, _*_, _/_, _%_, _≤_, _<_}
@@ -8,6 +8,7 @@ use lib.ListN.{length, take, drop, getD, set}
 use lib.Seq.{drop-cons, sets}
 use Rattle.rules.specs.Bytes.{le, bytes}
 use Rattle.mem.specs.Le.{le-at}
+use Rattle.mem.specs.Be.{be-at}
 
 -- one byte more, with the place after it under any name
 pub le-at-next : (n : ℕ) (s : List ℕ) (at to : ℕ) → to ≡ at + 1 → at < length s → le-at (suc n) s at ≡ getD s at 0 + 256 * le-at n s to
@@ -28,6 +29,13 @@ le-at-4 s at h =
     let c = le-at-next 1 s (at + 2) (at + 3) (omega arith) (omega arith) in
     let d = le-at-next 0 s (at + 3) (at + 4) (omega arith) (omega arith) in
     let e = le-at-none s (at + 4) in
+    omega arith
+
+pub be-at-4 : (s : List ℕ) (at : ℕ) → be-at 4 s at ≡ getD s (at + 3) 0 + 256 * (getD s (at + 2) 0 + 256 * (getD s (at + 1) 0 + 256 * getD s at 0))
+unfolding be-at
+be-at-4 s at =
+    let z : at + 0 ≡ at = omega arith in
+    let e : getD s (at + 0) 0 ≡ getD s at 0 = ap (λ (k : ℕ). getD s k 0) z in
     omega arith
 
 pub put-4 : (s : List ℕ) (at v : ℕ)

@@ -1,4 +1,4 @@
-// Bytes of a lent slice: numbers in little-endian bytes, read and put; bytes moved, zeroed, and copied in.
+// Bytes of a lent slice: numbers in little-endian bytes, read and put; numbers in big-endian bytes, read; bytes moved, zeroed, and copied in.
 mod moves;
 
 pub use moves::put_bytes;
@@ -9,6 +9,7 @@ ghost use mathlib.Core.Path.{_≡_};
 ghost use Prim.Native.Nat.{_+_, _≤_, _<_};
 ghost use lib.ListN.{length};
 ghost use lib.Seq.{sets};
+ghost use Rattle.mem.specs.Be.{be-at};
 ghost use Rattle.mem.specs.Le.{le-at};
 ghost use Rattle.rules.specs.Bytes.{bytes};
 
@@ -29,6 +30,18 @@ pub fn u32_le(s: &[u8], at: usize) -> u32
     let c = wide(s[at + 2]);
     let d = wide(s[at + 3]);
     a + 256 * (b + 256 * (c + 256 * d))
+}
+
+// The four bytes of s from `at` on, as a number with the first byte the highest: such numbers have the order of the bytes.
+pub fn u32_be(s: &[u8], at: usize) -> u32
+    requires { ⌜ at + 4 ≤ length (now s) ⌝ }
+    ensures { λ r. ⌜ r ≡ be-at 4 (now (s .entry)) at ⌝ }
+{
+    let a = wide(s[at]);
+    let b = wide(s[at + 1]);
+    let c = wide(s[at + 2]);
+    let d = wide(s[at + 3]);
+    d + 256 * (c + 256 * (b + 256 * a))
 }
 
 // The four bytes of v are put into s from `at` on.

@@ -1,77 +1,96 @@
--- `ids::ids_rise` meets its contract. The invariant: the ids rise exactly if those from record `i` on do. Assumes nothing.
-use mathlib.Core.Path.{_≡_, refl, sym, _∙_}
-use mathlib.Core.List.{List, map}
-use mathlib.Core.Bool.{_&&_}
-use Prim.Native.Nat.{_+_, _*_, _-_, _≤_}
+-- `ids::ids_rise` meets its contract. The invariant, `Climb`: the ids rise exactly if those from the record before `i` on do, and `last` is that record's first word.
+-- Assumes nothing.
+use mathlib.Core.Path.{_≡_, sym, ap, _∙_}
+use mathlib.Core.Bool.{true}
+use mathlib.Core.Logic.{⊎-elim}
+use mathlib.Core.List.{map}
+use Prim.Native.Nat.{_+_, _*_, _-_, _≤_, _<_}
 use native.Mathlib.Omega.{arith}
-use borrow.Author.Needs.{needs}
-use lib.ListN.{length, drop, length-drop}
+use borrow.Author.Tests.{not-true, not-false}
+use lib.ListN.{length}
 use denote.Ref.{now}
-use Rattle.ids.specs.Search.{is-less}
-use Rattle.rules.specs.Ids.{Id, rising}
+use Rattle.rules.specs.Ids.{below}
 use Rattle.rules.specs.Records.{records, id-of}
-use Rattle.ids.proofs.Records.{length-ids, getD-ids, record-end}
-use Rattle.lists.proofs.Part.{next-part}
-use Rattle.ids.proofs.Rising.{rising-turn, rising-short}
+use Rattle.ids.proofs.Ids.{id32}
+use Rattle.ids.proofs.Records.{length-ids, record-end}
+use Rattle.ids.proofs.Rising.{rising-short}
+use Rattle.ids.proofs.Climb.{Climb, two-ends, climb-starts, climb-quick, climb-on, climb-stops, climb-ends}
 use Rattle.ids.proofs.order.ids_rise.Statement.{statement}
 use Rattle.ids.proofs.order.ids_rise.Tie as tie
 
 abbrev Inv-loop : tie.InvT-loop
-Inv-loop table size used i₀ i = (i ≤ used - 1) × (rising (map id-of (records size used table)) ≡ rising (drop i (map id-of (records size used table))))
+Inv-loop table size used last₀ i₀ last i = Climb size used table last i
 
 abbrev μ-loop : tie.MeasureT-loop
-μ-loop table size used i₀ i = used - i
+μ-loop table size used last₀ i₀ last i = used - i
 
--- within a turn: the two records, and where they end
-abbrev js : tie.In-loop Inv-loop μ-loop → List Id
-js c = let a = c .before .before .before .args in map id-of (records (a .size) (a .used) (now (a .table)))
+-- the function's start, seen from a turn
+abbrev start : tie.In-loop Inv-loop μ-loop → tie.Start Inv-loop μ-loop
+start c = c .before .before .before .before .before
 
-ends : (c : tie.In-loop Inv-loop μ-loop) → c .before .loop .i * c .before .before .before .args .size + c .before .before .before .args .size + c .before .before .before .args .size ≤ length (now (c .before .before .before .args .table))
-ends c =
-    let s = c .before .before .before in
-    omega (arith, next-part (s .args .size) (c .before .loop .i), record-end (s .args .size) (s .args .used) (c .before .loop .i + 1) (c .loop-test .taken))
+ends : (c : tie.In-loop Inv-loop μ-loop) → (start c .args .size ≤ c .before .loop .i * start c .args .size) × (c .before .loop .i * start c .args .size + start c .args .size ≤ length (now (start c .args .table)))
+ends c = let s = start c in two-ends (s .args .size) (s .args .used) (now (s .args .table)) (s .pre .0) (s .pre .1) (c .before .loop .i) (c .before .loop .inv .i-from) (c .loop-test .taken)
 
-told : (c : tie.After-compare Inv-loop μ-loop) → rising (js (c .before)) ≡ is-less (c .compare .result) && rising (drop (c .before .before .loop .i + 1) (js (c .before)))
-told c =
-    let t = c .before in
-    let s = t .before .before .before in
-    let i = t .before .loop .i in
-    let n = length-ids (s .args .size) (s .args .used) (now (s .args .table)) in
-    t .before .loop .inv .1
-    ∙ rising-turn (js t) i (omega arith)
-    ∙ rw (getD-ids (s .args .size) (s .args .used) i (now (s .args .table)) (s .pre .0) (omega arith), getD-ids (s .args .size) (s .args .used) (i + 1) (now (s .args .table)) (s .pre .0) (omega arith), next-part (s .args .size) i, c .compare .ensures)
-
-loop-holds : tie.Need-loop-holds Inv-loop μ-loop
-loop-holds c = (omega arith, refl)
-
-mul-compare : tie.Need-mul-compare Inv-loop μ-loop
-mul-compare c = omega (arith, ends c)
-
-mul-compare-2 : tie.Need-mul-compare-2 Inv-loop μ-loop
-mul-compare-2 c = omega (arith, ends c)
-
-add-compare : tie.Need-add-compare Inv-loop μ-loop
-add-compare c = omega (arith, ends c)
-
-compare-requires : tie.Need-compare-requires Inv-loop μ-loop
-compare-requires c κs = omega (arith, ends c)
+-- after a turn that goes on, the two ids rise: the words said so, or all bytes did
+rise : (c : tie.Joined2 Inv-loop μ-loop) → below (id32 (c .before .before .before .loop .i * start (c .before .before) .args .size - start (c .before .before) .args .size) (now (start (c .before .before) .args .table))) (id32 (c .before .before .before .loop .i * start (c .before .before) .args .size) (now (start (c .before .before) .args .table))) ≡ true
+rise c =
+    let t = c .before .before in
+    let s = start t in
+    let l = t .before .loop in
+    ⊎-elim
+    (λ w. sym (w .1 .ensures) ∙ not-false (w .1 .result) (w .2 .left))
+    (λ w. climb-quick (s .args .size) (s .args .used) (now (s .args .table)) (s .pre .0) (s .pre .1) (l .last) (l .i) (l .inv) (λ j. t .before .before .before .before .shared-slice-known .given j .fits) (t .loop-test .taken) (rw (c .before .u32-be2 .ensures) at (w .left)))
+    (c .if2 .came)
 
 returns : tie.Need-returns Inv-loop μ-loop
-returns c = sym (told (c .before .before) ∙ rw (c .enum-told2 .given .1))
+returns c =
+    let s = c .before .before in
+    sym (rising-short (map id-of (records (s .args .size) (s .args .used) (now (s .args .table)))) (omega (arith, length-ids (s .args .size) (s .args .used) (now (s .args .table)), c .if1 .taken)))
+
+u32-be-requires : tie.Need-u32-be-requires Inv-loop μ-loop
+u32-be-requires c κs =
+    let s = c .before .before in
+    let u : 0 < s .args .used = omega arith in
+    omega (arith, record-end (s .args .size) (s .args .used) 0 u)
+
+loop-holds : tie.Need-loop-holds Inv-loop μ-loop
+loop-holds c =
+    let s = c .before .before .before in
+    let u : 0 < s .args .used = omega arith in
+    rw (c .u32-be .ensures) (climb-starts (s .args .size) (s .args .used) (now (s .args .table)) (s .pre .0) (s .pre .1) u)
+
+mul-at : tie.Need-mul-at Inv-loop μ-loop
+mul-at c = omega (arith, ends c)
+
+u32-be-requires-2 : tie.Need-u32-be-requires-2 Inv-loop μ-loop
+u32-be-requires-2 c κs = omega (arith, ends c)
+
+sub-is-below : tie.Need-sub-is-below Inv-loop μ-loop
+sub-is-below c = omega (arith, ends (c .before .before))
+
+is-below-requires : tie.Need-is-below-requires Inv-loop μ-loop
+is-below-requires c κs = omega (arith, ends (c .before .before))
 
 returns-2 : tie.Need-returns-2 Inv-loop μ-loop
-returns-2 c = sym (told (c .before .before) ∙ rw (c .enum-told3 .given .1))
+returns-2 c =
+    let t = c .before .before .before .before in
+    let s = start t in
+    let l = t .before .loop in
+    sym (climb-stops (s .args .size) (s .args .used) (now (s .args .table)) (s .pre .0) (s .pre .1) (l .last) (l .i) (l .inv) (t .loop-test .taken) (sym (c .before .is-below .ensures) ∙ not-true (c .before .is-below .result) (c .if3 .taken)))
 
 loop-again : tie.Need-loop-again Inv-loop μ-loop
-loop-again c = (omega arith, told (c .before .before) ∙ rw (c .enum-told .given .1))
+loop-again c =
+    let t = c .before .before in
+    let s = start t in
+    let l = t .before .loop in
+    rw (c .before .u32-be2 .ensures) (climb-on (s .args .size) (s .args .used) (now (s .args .table)) (s .pre .0) (s .pre .1) (l .last) (l .i) (l .inv) (t .loop-test .taken) (rise c))
 
 returns-3 : tie.Need-returns-3 Inv-loop μ-loop
 returns-3 c =
-    let s = c .before .before .before in
-    let xs = map id-of (records (s .args .size) (s .args .used) (now (s .args .table))) in
-    let n = length-ids (s .args .size) (s .args .used) (now (s .args .table)) in
-    sym (c .before .loop .inv .1 ∙ rising-short (drop (c .before .loop .i) xs) (rw length-drop (omega arith)))
+    let s = c .before .before .before .before .before in
+    let l = c .before .loop in
+    sym (climb-ends (s .args .size) (s .args .used) (now (s .args .table)) (s .pre .0) (s .pre .1) (l .last) (l .i) (l .inv) (c .loop-test .left))
 
 pub ids-rise-spec : {M : Type 1} → statement M
 ids-rise-spec =
-    tie.close (tie.spec Inv-loop μ-loop loop-holds (λ c. omega arith) mul-compare mul-compare-2 add-compare compare-requires (λ c. search needs) (λ c. search needs) returns (λ c. search needs) returns-2 (λ c. omega arith) (λ c. omega arith) loop-again returns-3)
+    tie.close (tie.spec Inv-loop μ-loop returns u32-be-requires loop-holds mul-at u32-be-requires-2 sub-is-below is-below-requires returns-2 (λ c. omega arith) (λ c. omega arith) loop-again returns-3)
