@@ -12,7 +12,7 @@ use Rattle.rules.proofs.All.{All, none, more}
 use Rattle.rules.proofs.Ids.{Up, end, step, same-eq, below-trans, below-other}
 use Rattle.rules.proofs.Records.{Sized}
 use Rattle.settle.specs.Once.{once-after, once}
-use Rattle.settle.specs.Shell.{Ordered, end as none-ordered, step as next-ordered}
+use Rattle.sort.specs.Order.{Ordered, end as none-ordered, step as next-ordered}
 
 -- ---- they rise
 

@@ -1,21 +1,13 @@
 -- Laws of records in any order.
 
--- a pass only moves records
-pub mod Shuffled
--- the last pass puts them in order
-pub mod Ordered
--- the loops of the sort
-pub mod Sinking
--- the loops of the sort
-pub mod Passing
--- the loops of the sort
-pub mod Mixed
 -- each id once, and the loop
 pub mod Distinct
 -- each id once, and the loop
 pub mod Thinning
 -- what stood in a table before does not show
 pub mod Settling
+-- records placed where they stand
+pub mod Own
 -- the loop that puts records where their ids stand
 pub mod Renewing
 -- all of it

@@ -1,6 +1,4 @@
--- Sorting in place, and each id once.
+-- Each id once.
 
--- the passes of the sort
-pub mod Shell
 -- of neighbours with one id the first stays
 pub mod Once

@@ -1,0 +1,4 @@
+-- Records by their places.
+
+-- two records change places
+pub mod Swapped
