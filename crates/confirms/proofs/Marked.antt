@@ -17,7 +17,7 @@ use Rattle.batch.specs.Batch.{marked, unmarked}
 use Rattle.batch.specs.Picked.{picked}
 use Rattle.batch.proofs.Picked.{picked-keep, picked-others, picked-take}
 use Rattle.marks.specs.Marks.{beside}
-use Rattle.room.proofs.Counting.{count-next, count-end}
+use Rattle.lists.proofs.Loop.{count-next, count-end}
 
 module _ (k : Board) (law : Lawful k) (mark : Id → Bool) where
   -- a mark by the bytes is one by the record

@@ -88,7 +88,7 @@ fn records_sound(table: &[u8], size: usize, used: usize) -> bool
         let at = i * size;
         let next = mem::u32_be(table, at);
         if next <= last {
-            if !ids::is_below(table, at - size, at) {
+            if !ids::is_below(table, at - size, table, at) {
                 return false;
             }
         }

@@ -2,6 +2,8 @@
 
 -- marks beside a table
 pub mod Beside
+-- what marking asks for
+pub mod Marking
 -- the listed ids, one after the other
 pub mod Noting
 -- the records whose mark is 0

@@ -1,6 +1,7 @@
 // Which records of a table are listed: a byte for each record, by its place. And the records whose mark is 0 stay.
 use ids::Found;
 use ids::find;
+use kinds::MAX_PENDING_ENTRIES;
 ghost use mathlib.Core.Path.{_≡_};
 ghost use mathlib.Core.Bool.{true};
 ghost use mathlib.Core.List.{map, _++_};
@@ -8,11 +9,19 @@ ghost use Prim.Native.Nat.{_*_, _≤_};
 ghost use lib.ListN.{length, take, drop, replicate};
 ghost use Rattle.rules.specs.Ids.{rising};
 ghost use Rattle.rules.specs.Records.{records, id-of, laid};
+ghost use Rattle.rules.specs.Board.{pending-most};
 ghost use Rattle.rules.specs.Calls.{ids-of};
 ghost use Rattle.ids.specs.Search.{find-in};
 ghost use Rattle.batch.specs.Needed.{listed};
 ghost use Rattle.batch.specs.Picked.{picked};
 ghost use Rattle.marks.specs.Marks.{beside, noted};
+
+// A mark for each pending record that there may be: none is marked.
+pub fn no_marks() -> [u8; MAX_PENDING_ENTRIES]
+    ensures { λ r. ⌜ r ≡ replicate pending-most 0 ⌝ }
+{
+    [0u8; MAX_PENDING_ENTRIES]
+}
 
 // The record of the id is marked, if there is one.
 fn mark(table: &[u8], size: usize, used: usize, id: &[u8], marks: &mut [u8])

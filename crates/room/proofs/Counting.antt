@@ -1,9 +1,8 @@
--- The loops that count, from the front: what has been counted and what is left to count are the whole. And marks beside a table, which say of which records
--- it is counted. Assumes nothing.
+-- What a pass counts: confirmed records by their heights, pending records by their marks and a test. And marks beside a table. Assumes nothing.
 use mathlib.Core.Path.{_≡_, refl, sym, ap, ap₂, _∙_, fun-ext}
 use mathlib.Core.Bool.{Bool, true, false, _&&_}
 use mathlib.Core.List.{List, [], _∷_, _++_, map}
-use Prim.Native.Nat.{ℕ, _+_, _≤_, _<_, zero-le}
+use Prim.Native.Nat.{ℕ, _+_, _≤_, _<_}
 use native.Mathlib.Numerals.{add-one}
 use native.Mathlib.Omega.{arith}
 use lib.Dec.{leb, eqb}
@@ -16,44 +15,15 @@ use Rattle.rules.specs.Records.{records, id-of}
 use Rattle.rules.specs.Board.{Board, Pending, Confirmed, confirmed-size, confirmed-of}
 use Rattle.rules.specs.Memory.{pending-records, confirmed-records}
 use Rattle.rules.proofs.Records.{length-records}
+use Rattle.rules.proofs.Memory.{pending-length}
 use Rattle.lists.proofs.Counting.{length-kept, keep-all}
+use Rattle.lists.proofs.Loop.{count-next, count-end}
 use Rattle.marks.specs.Marks.{beside}
 use Rattle.room.specs.Room.{marked-count}
 
--- ---- a loop
-
--- `left i` is how many there are from place i on
-pub record Counting (left : ℕ → ℕ) (used n i : ℕ) : Type 0 where
-  pub within : i ≤ used
-  pub few : n ≤ i
-  pub is : n + left i ≡ left 0
-
-module _ (left : ℕ → ℕ) (used : ℕ) where
-  pub start : Counting left used 0 0
-  start = record { within = zero-le; few = zero-le; is = omega arith }
-
-  pub step : {n i : ℕ} (m : ℕ) (t : Bool) → Counting left used n i → i < used → m ≡ n + bit t → left i ≡ bit t + left (i + 1) → Counting left used m (i + 1)
-  step {n} {i} m t g h e q = record { within = omega arith; few = omega (arith, small t, g .few); is = omega (arith, g .is) }
-    where
-      small : (t : Bool) → bit t ≤ 1
-      small true = omega arith
-      small false = omega arith
-
-  pub stop : {n i : ℕ} → Counting left used n i → left i ≡ 0 → n ≡ left 0
-  stop g q = omega (arith, g .is)
-
--- ---- what is left, of those that pass a test
+-- ---- what is left, of those that are marked and pass a test
 
 module _ {A : Type 0} (p : A → Bool) (xs : List A) where
-  pub count-next : (i : ℕ) (d : A) → i < length xs → count p (drop i xs) ≡ bit (p (getD xs i d)) + count p (drop (i + 1) xs)
-  unfolding count
-  count-next i d h = rw (add-one, drop-cons xs i d h)
-
-  pub count-end : (i : ℕ) → length xs ≤ i → count p (drop i xs) ≡ 0
-  unfolding count
-  count-end i h = rw (drop-of-length-le xs {i = i} h)
-
-  -- and are marked
   marked-next : (ms : List ℕ) (i : ℕ) (d : A) → i < length ms → i < length xs
       → marked-count p (drop i ms) (drop i xs) ≡ bit (eqb (getD ms i 0) 1 && p (getD xs i d)) + marked-count p (drop (i + 1) ms) (drop (i + 1) xs)
   unfolding marked-count
@@ -68,10 +38,6 @@ module _ {A : Type 0} (p : A → Bool) (xs : List A) where
 pub many : (used : ℕ) (xs : List ℕ) → length (confirmed-records used xs) ≡ used
 unfolding confirmed-records
 many used xs = length-map (records confirmed-size used xs) confirmed-of ∙ length-records confirmed-size used xs
-
-pub many-pending : (k : Board) (used : ℕ) (xs : List ℕ) → length (pending-records k used xs) ≡ used
-unfolding pending-records
-many-pending k used xs = length-map (records (k .table .size) used xs) (k .table .read) ∙ length-records (k .table .size) used xs
 
 module _ (low used : ℕ) (xs : List ℕ) where
   abbrev high : Confirmed → Bool
@@ -102,12 +68,12 @@ module _ (k : Board) (p : Pending → Bool) (used : ℕ) (xs ms : List ℕ) wher
   unfolding pending-records
   new-next i t h l e =
       let left : ℕ = marked-count p (drop (i + 1) ms) (drop (i + 1) (pending-records k used xs)) in
-      marked-next p (pending-records k used xs) ms i (k .table .read []) (omega arith) (omega (arith, many-pending k used xs))
+      marked-next p (pending-records k used xs) ms i (k .table .read []) (omega arith) (omega (arith, pending-length k used xs))
       ∙ ap (λ (r : Pending). bit (eqb (getD ms i 0) 1 && p r) + left) (List·getD-map (k .table .read) (records (k .table .size) used xs) i [])
       ∙ ap (λ (b : Bool). bit b + left) (sym e)
 
   pub new-end : (i : ℕ) → used ≤ i → marked-count p (drop i ms) (drop i (pending-records k used xs)) ≡ 0
-  new-end i h = marked-end p (pending-records k used xs) ms i (omega (arith, many-pending k used xs))
+  new-end i h = marked-end p (pending-records k used xs) ms i (omega (arith, pending-length k used xs))
 
 -- ---- marks beside a table
 

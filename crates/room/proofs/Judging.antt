@@ -1,49 +1,29 @@
 -- What is needed, from what the code has counted; and for whoever judges a block: room is found exactly if the table has room for all that it will hold once the
 -- list is in. Assumes nothing.
-use mathlib.Core.Path.{_≡_, refl, sym, ap, ap₂, _∙_}
+use mathlib.Core.Path.{_≡_, sym, ap, ap₂, _∙_}
 use mathlib.Core.Bool.{Bool, true}
-use mathlib.Core.List.{List, _∷_, _++_, map}
-use Prim.Native.Nat.{ℕ, zero, suc, _+_, _-_, _*_, _≤_}
-use native.Mathlib.Nat.{not-suc-le-zero, le-of-suc-le-suc}
+use mathlib.Core.List.{List, _++_}
+use Prim.Native.Nat.{ℕ, _+_, _-_, _≤_}
 use native.Mathlib.Omega.{arith}
 use lib.Dec.{leb}
 use borrow.Author.Tests.{le-leb}
-use lib.ListN.{length, take, replicate, length-replicate}
 use Rattle.kinds.specs.declared.Height.{Height}
 use Rattle.kinds.specs.declared.Last.{Last}
 use Rattle.kinds.specs.declared.State.{State}
 use Rattle.rules.specs.Lists.{count}
-use Rattle.rules.specs.Ids.{Id, rising}
-use Rattle.rules.specs.Records.{records, id-of, sound-table}
-use Rattle.rules.specs.Board.{Board, Lawful, Pending, Confirmed, pending-size, pending-most}
+use Rattle.rules.specs.Ids.{Id}
+use Rattle.rules.specs.Records.{records, id-of}
+use Rattle.rules.specs.Board.{Board, Lawful, Pending, Confirmed}
 use Rattle.rules.specs.Memory.{Lent, pending-records, confirmed-records, confirmed-capacity, view}
 use Rattle.rules.specs.Calls.{ids-of, held-once-listed}
+use Rattle.rules.proofs.Memory.{pending-length}
 use Rattle.rules.proofs.Well.{Well}
-use Rattle.table.proofs.Sound.{sound-told, sound-room}
 use Rattle.batch.specs.Needed.{listed, needed}
 use Rattle.batch.proofs.Needed.{needed-is, needed-most}
 use Rattle.marks.specs.Marks.{beside}
 use Rattle.room.specs.Room.{last-skipped, least-height, comes-new, marked-count}
 use Rattle.room.proofs.Lasting.{stays-is, adds-is}
-use Rattle.room.proofs.Counting.{many, many-pending, marked-is}
-
--- ---- the marks
-
-take-zeros : (n m : ℕ) → n ≤ m → take {A = ℕ} n (replicate m 0) ≡ replicate n 0
-take-zeros zero m h = refl
-take-zeros (suc n) zero h = absurd (not-suc-le-zero h)
-take-zeros (suc n) (suc m) h = ap (λ (l : List ℕ). 0 ∷ l) (take-zeros n m (le-of-suc-le-suc h))
-
--- there is one for each record of a sound table
-pub marks-enough : (m used : ℕ) (xs ms : List ℕ) → sound-table m pending-most used xs ≡ true → ms ≡ replicate pending-most 0 → used ≤ length ms
-marks-enough m used xs ms s e = omega (arith, sound-told m pending-most used xs s .fit, ap length e ∙ length-replicate {A = ℕ} pending-most 0)
-
--- what marking asks; the code has a record's size as a number n that it has asked for
-pub markable : (n m used : ℕ) (xs ms : List ℕ) → n ≡ m → pending-size ≤ n → sound-table m pending-most used xs ≡ true → ms ≡ replicate pending-most 0
-    → ((32 ≤ n) × (used * n ≤ length xs)) × ((rising (map id-of (records n used xs)) ≡ true) × ((used ≤ length ms) × (take used ms ≡ replicate used 0)))
-markable n m used xs ms q h s e =
-    let g = sound-told n pending-most used xs (ap (λ (x : ℕ). sound-table x pending-most used xs) q ∙ s) in
-    ((omega arith, sound-room n pending-most used xs g), (g .rise, (marks-enough m used xs ms s e, ap (take used) e ∙ take-zeros used pending-most (omega (arith, g .fit)))))
+use Rattle.room.proofs.Counting.{many, marked-is}
 
 -- ---- what is needed
 
@@ -64,7 +44,7 @@ module _ (k : Board) (law : Lawful k) (ids : List Id) (B : ℕ) (last : Last) (u
 module _ (k : Board) (ids : List Id) (B : ℕ) (last : Last) (used kept : ℕ) (xs ys : List ℕ) where
   -- no more than all used records
   pub within-used : needed k ids B last (pending-records k used xs) (confirmed-records kept ys) ≤ kept + used
-  within-used = omega (arith, needed-most k ids B last (pending-records k used xs) (confirmed-records kept ys), many kept ys, many-pending k used xs)
+  within-used = omega (arith, needed-most k ids B last (pending-records k used xs) (confirmed-records kept ys), many kept ys, pending-length k used xs)
 
   -- where each pending record finds a free place there is room
   pub enough-places : (room : ℕ) → kept ≤ room → used ≤ room - kept → true ≡ leb (needed k ids B last (pending-records k used xs) (confirmed-records kept ys)) room

@@ -9,27 +9,19 @@ use kinds::CONFIRMED_SIZE;
 use kinds::Height;
 use kinds::Horizon;
 use kinds::MAX_CONFIRMED_RECORDS;
-use kinds::MAX_PENDING_ENTRIES;
 use kinds::State;
 use marks::mark_listed;
+use marks::no_marks;
 use skipped::last_skipped;
 use skipped::least_height;
 ghost use mathlib.Core.Path.{_≡_};
 ghost use mathlib.Core.Bool.{true};
 ghost use lib.Dec.{leb};
-ghost use lib.ListN.{replicate};
 ghost use Rattle.rules.specs.Records.{sound-table};
 ghost use Rattle.rules.specs.Board.{board-of, pending-most, confirmed-size, confirmed-most};
 ghost use Rattle.rules.specs.Memory.{pending-records, confirmed-records, confirmed-capacity};
 ghost use Rattle.rules.specs.Calls.{ids-of};
 ghost use Rattle.batch.specs.Needed.{needed};
-
-// A mark for each pending record that there may be: none is marked.
-pub fn no_marks() -> [u8; MAX_PENDING_ENTRIES]
-    ensures { λ r. ⌜ r ≡ replicate pending-most 0 ⌝ }
-{
-    [0u8; MAX_PENDING_ENTRIES]
-}
 
 // How many confirmed records there will be once the list is in.
 fn needed(

@@ -26,12 +26,8 @@ fn keep_other(table: &mut [u8], size: usize, k: usize, i: usize) -> usize
     requires { ⌜ (32 ≤ size) × ((0 < k) × ((k ≤ i) × (i * size + size ≤ length (now table)))) ⌝ }
     ensures { λ r. ⌜ Moved (λ b. not (same (take 32 (drop ((k - 1) * size) (now (table .entry)))) (id-of b))) size k i (now (table .entry)) (now (table .exit)) r ⌝ }
 {
-    if same_ids(table, (k - 1) * size, i * size) {
-        k
-    } else {
-        mem::shift_down(table, k * size, i * size - k * size, size);
-        k + 1
-    }
+    let repeated = same_ids(table, (k - 1) * size, i * size);
+    table::keep_record(table, size, k, i, !repeated)
 }
 
 // The answer is how many stay.

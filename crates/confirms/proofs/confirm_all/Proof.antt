@@ -12,7 +12,7 @@ use Rattle.rules.specs.Calls.{ids-of}
 use Rattle.rules.proofs.Boards.{board-lawful}
 use Rattle.by_id.proofs.ById.{within-bytes}
 use Rattle.ready.proofs.Facts.{pending-sound}
-use Rattle.room.proofs.Judging.{marks-enough, markable}
+use Rattle.marks.proofs.Marking.{marks-enough, markable}
 use Rattle.confirms.proofs.Together.{nothing-listed, places-for-all, merge-asks, phases-are}
 use Rattle.confirms.proofs.confirm_all.Statement.{statement}
 use Rattle.confirms.proofs.confirm_all.Tie as tie

@@ -8,7 +8,7 @@ use borrow.Author.Tests.{eq-eqb, ne-eqb}
 use denote.Ref.{now}
 use lib.ListN.{getD, take, drop}
 use Rattle.rules.specs.Lists.{bit, count}
-use Rattle.room.proofs.Counting.{Counting, start, step, stop}
+use Rattle.lists.proofs.Loop.{Counting, start, step, stop}
 use Rattle.confirms.proofs.Marked.{mark-next, mark-end}
 use Rattle.confirms.proofs.count_new.Statement.{statement}
 use Rattle.confirms.proofs.count_new.Tie as tie

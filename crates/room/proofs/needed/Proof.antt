@@ -10,7 +10,8 @@ use Rattle.rules.specs.Calls.{ids-of}
 use Rattle.rules.proofs.Boards.{board-lawful}
 use Rattle.table.proofs.Sound.{sound-told, sound-room}
 use Rattle.batch.specs.Needed.{needed}
-use Rattle.room.proofs.Judging.{marks-enough, markable, all-needed, within-used}
+use Rattle.marks.proofs.Marking.{marks-enough, markable}
+use Rattle.room.proofs.Judging.{all-needed, within-used}
 use Rattle.room.proofs.needed.Statement.{statement}
 use Rattle.room.proofs.needed.Tie as tie
 

@@ -8,7 +8,8 @@ use Rattle.rules.specs.Lists.{bit}
 use Rattle.rules.specs.Board.{board-of}
 use Rattle.rules.specs.Memory.{pending-records, confirmed-records}
 use Rattle.room.specs.Room.{comes-new, marked-count}
-use Rattle.room.proofs.Counting.{Counting, start, step, stop, new-next, new-end}
+use Rattle.lists.proofs.Loop.{Counting, start, step, stop}
+use Rattle.room.proofs.Counting.{new-next, new-end}
 use Rattle.room.proofs.count.count_new.Statement.{statement}
 use Rattle.room.proofs.count.count_new.Tie as tie
 

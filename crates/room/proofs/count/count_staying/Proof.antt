@@ -8,7 +8,8 @@ use borrow.Author.Tests.{le-leb, lt-leb}
 use lib.ListN.{drop}
 use Rattle.rules.specs.Lists.{bit, count}
 use Rattle.rules.specs.Memory.{confirmed-records}
-use Rattle.room.proofs.Counting.{Counting, start, step, stop, all-high, high-next, high-end}
+use Rattle.lists.proofs.Loop.{Counting, start, step, stop}
+use Rattle.room.proofs.Counting.{all-high, high-next, high-end}
 use Rattle.room.proofs.count.count_staying.Statement.{statement}
 use Rattle.room.proofs.count.count_staying.Tie as tie
 
