@@ -12,7 +12,7 @@ use Rattle.rules.specs.Lists.{bit, count, any, keep, insert}
 use Rattle.rules.specs.Ids.{Id, same, below, rising, dropped, placed}
 use Rattle.rules.specs.Records.{id-of}
 use Rattle.rules.proofs.All.{All, none, more}
-use Rattle.rules.proofs.Ids.{Up, end, step, same-eq, same-refl, same-sym, below-apart, below-asym, up-of, dropped-absent}
+use Rattle.rules.proofs.Ids.{Up, step, same-eq, same-refl, same-sym, below-apart, below-asym, up-of, dropped-absent}
 use Rattle.format.specs.File.{settled}
 use Rattle.format.proofs.Back.{all-imply}
 use Rattle.sort.specs.Order.{Shuffled}
@@ -24,11 +24,11 @@ data Stands {A : Type 0} (r : A) : List A → Type 0 where
   here : {rs : List A} → Stands r (r ∷ rs)
   later : {q : A} {rs : List A} → Stands r rs → Stands r (q ∷ rs)
 
-module _ {A : Type 0} (id : A → Id) where
-  all-at : {P : A → Type 0} {r : A} {rs : List A} → All P rs → Stands r rs → P r
-  all-at (more h hs) here = h
-  all-at (more h hs) (later s) = all-at hs s
+all-at : {A : Type 0} {P : A → Type 0} {r : A} {rs : List A} → All P rs → Stands r rs → P r
+all-at (more h hs) here = h
+all-at (more h hs) (later s) = all-at hs s
 
+module _ {A : Type 0} (id : A → Id) where
   -- below all of them
   over-absent : (i : Id) {rs : List A} → All (λ q. below i (id q) ≡ true) rs → any (λ q. same (id q) i) rs ≡ false
   unfolding any
@@ -99,13 +99,12 @@ stands r (q ∷ qs) h = go (same q r) refl (λ k. stands r qs k) h
 
 -- ---- the whole
 
-module _ (rs qs : List (List ℕ)) (s : Shuffled rs qs) where
-  -- no id stands in qs that is not in rs
-  pub no-other : (ts : List (List ℕ)) → ((i : Id) → any (λ r. same (id-of r) i) ts ≡ any (λ r. same (id-of r) i) rs) → All (λ t. any (λ r. same (id-of t) (id-of r)) rs ≡ true) ts
-  no-other ts e = all-imply (λ t h. sym (any-turned (id-of t) rs) ∙ sym (e (id-of t)) ∙ h) (owns id-of ts)
+-- with the same ids in both, each id of ts is among those of rs
+pub no-other : (rs ts : List (List ℕ)) → ((i : Id) → any (λ r. same (id-of r) i) ts ≡ any (λ r. same (id-of r) i) rs) → All (λ t. any (λ r. same (id-of t) (id-of r)) rs ≡ true) ts
+no-other rs ts e = all-imply (λ t h. sym (any-turned (id-of t) rs) ∙ sym (e (id-of t)) ∙ h) (owns id-of ts)
 
-  pub settled-sorted : rising (map id-of qs) ≡ true → settled id-of [] rs ≡ qs
-  settled-sorted h =
-      let up : Up id-of qs = up-of id-of qs h in
-      sym (settled-over id-of rs up (no-other qs (shuffled-any id-of rs qs s)))
-      ∙ settled-own id-of up (all-imply (λ t k. stands t qs (shuffled-any (λ r. r) rs qs s t ∙ k)) (owns (λ r. r) rs))
+pub settled-sorted : (rs qs : List (List ℕ)) → Shuffled rs qs → rising (map id-of qs) ≡ true → settled id-of [] rs ≡ qs
+settled-sorted rs qs s h =
+    let up : Up id-of qs = up-of id-of qs h in
+    sym (settled-over id-of rs up (no-other rs qs (shuffled-any id-of rs qs s)))
+    ∙ settled-own id-of up (all-imply (λ t k. stands t qs (shuffled-any (λ r. r) rs qs s t ∙ k)) (owns (λ r. r) rs))

@@ -153,7 +153,7 @@ module _ (size places n : ℕ) (xs file : List ℕ) (fit : n ≤ places) (room :
     once-there = rw once-records (all-there fs (records size n xs) shuffled)
 
     once-settled : settled id-of table fs ≡ settled id-of [] fs
-    once-settled = settled-over id-of fs up (no-other fs (records size n xs) shuffled table (same-ids fs (records size n xs) shuffled))
+    once-settled = settled-over id-of fs up (no-other fs table (same-ids fs (records size n xs) shuffled))
 
     pub settled-count : k ≡ length (settled id-of [] fs)
     settled-count = t .count ∙ sym (sym (ap length once-settled) ∙ settled-long fs table (rising-of id-of up) (all-there fs (records size n xs) shuffled))
