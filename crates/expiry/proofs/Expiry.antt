@@ -3,8 +3,7 @@
 use mathlib.Core.Path.{_≡_, refl, sym, ap, _∙_}
 use mathlib.Core.Bool.{Bool, _&&_}
 use mathlib.Core.List.{List, [], _∷_, _++_}
-use Prim.Native.Nat.{ℕ, zero, suc, _+_, _≤_, _<_, zero-le}
-use native.Mathlib.Nat.{not-suc-le-zero, le-of-suc-le-suc}
+use Prim.Native.Nat.{ℕ, suc, _+_, _≤_, _<_, zero-le}
 use native.Mathlib.Numerals.{add-one}
 use native.Mathlib.Omega.{arith}
 use lib.Dec.{leb, ltb}
@@ -16,16 +15,10 @@ use Rattle.rules.specs.Counts.{Counts, places-of-counts, gain}
 use Rattle.rules.specs.Records.{records}
 use Rattle.rules.specs.Estimator.{outwaited, expire-targets}
 use Rattle.rules.specs.Memory.{pending-records}
-use Rattle.rules.proofs.All.{All, none, more}
+use Rattle.rules.proofs.All.{All, none, more, all-at}
 use Rattle.rules.proofs.Memory.{pending-length}
 use Rattle.rules.proofs.Well.{WellPending, length-gain}
 use Rattle.counts.proofs.Gain.{gain-first}
-
--- what holds of each holds of number i
-all-at : {A : Type 0} {P : A → Type 0} {l : List A} → All P l → (i : ℕ) (d : A) → i < length l → P (getD l i d)
-all-at none i d h = absurd (not-suc-le-zero h)
-all-at (more p ps) zero d h = p
-all-at (more p ps) (suc i) d h = all-at ps i d (le-of-suc-le-suc h)
 
 -- ---- pending records by their number
 
@@ -37,7 +30,7 @@ module _ (k : Board) (used : ℕ) (xs : List ℕ) where
   pub bucket-at : All WellPending (pending-records k used xs) → (i : ℕ) → i < used → k .table .read (getD (records (k .table .size) used xs) i []) .bucket < buckets
   bucket-at w i h =
       let n = pending-length k used xs in
-      let b = rw (number i) at (all-at w i (k .table .read []) (omega arith) .bucket) in
+      let b = rw (number i) at (all-at i (k .table .read []) w (omega arith) .bucket) in
       omega arith
 
 -- counting from the record's own numbers

@@ -16,10 +16,6 @@ use Rattle.rules.proofs.Records.{and-left, length-records}
 use Rattle.lists.proofs.Lists.{and-true, every-map, every-next, every-end}
 use Rattle.table.proofs.Records.{cap-room}
 
-pub and-false : (a : Bool) → a && false ≡ false
-and-false true = refl
-and-false false = refl
-
 -- each of these records is in range
 abbrev pub fine : List (List ℕ) → Bool
 fine rs = every (λ b. in-range (pending-of b)) rs

@@ -16,7 +16,8 @@ use Rattle.rules.specs.Board.{in-range, pending-of}
 use Rattle.ids.proofs.Records.{length-ids, record-end}
 use Rattle.ids.proofs.Rising.{rising-short}
 use Rattle.ids.proofs.Climb.{Climb, above, starts, two-ends, quick, goes-on, stops, ends}
-use Rattle.judge.proofs.Records.{and-false, fine, fine-is, fine-next, fine-end}
+use Rattle.lists.proofs.Lists.{and-false}
+use Rattle.judge.proofs.Records.{fine, fine-is, fine-next, fine-end}
 use Rattle.judge.proofs.tables.records_sound.Statement.{statement}
 use Rattle.judge.proofs.tables.records_sound.Tie as tie
 
