@@ -12,9 +12,9 @@ use Rattle.rules.specs.Board.{Confirmed}
 use Rattle.rules.specs.Estimator.{holds, become}
 use Rattle.rules.proofs.All.{All, more}
 use Rattle.rules.proofs.Ids.{Up, end, step, same-eq, same-refl, same-sym, below-other, all-above}
+use Rattle.rules.proofs.Room.{above-absent}
 use Rattle.lists.proofs.Counting.{any-keep}
 use Rattle.batch.specs.Batch.{is-confirmed}
-use Rattle.batch.proofs.Rising.{above-absent}
 use Rattle.batch.proofs.Keeping.{any-ext, any-none, any-insert}
 
 abbrev Rising : List Confirmed → Type 0

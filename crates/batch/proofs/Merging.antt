@@ -11,8 +11,8 @@ use Rattle.rules.specs.Board.{Pending, Confirmed}
 use Rattle.rules.specs.Estimator.{is-pending, holds}
 use Rattle.rules.proofs.All.{All, none, more, all-map}
 use Rattle.rules.proofs.Ids.{Up, end, step, same-eq, up-keep, up-insert}
+use Rattle.rules.proofs.Room.{above-absent}
 use Rattle.batch.specs.Batch.{at-height, is-confirmed, lifted, raised, fresh-of, merged}
-use Rattle.batch.proofs.Rising.{above-absent}
 use Rattle.batch.proofs.Keeping.{any-ext, any-map, any-and, any-insert, has-kept}
 
 -- ---- what they hold

@@ -8,20 +8,9 @@ use native.Mathlib.Omega.{arith}
 use lib.ListN.{length, getD, take}
 use Rattle.rules.specs.Lists.{bit, count, any}
 use Rattle.rules.specs.Ids.{Id, same, below}
-use Rattle.rules.proofs.All.{All, none, more}
-use Rattle.rules.proofs.Ids.{Up, end, step, same-eq, same-sym, below-apart}
-
--- what holds of each holds of number n
-pub all-at : {A : Type 0} {P : A → Type 0} {xs : List A} (n : ℕ) (d : A) → All P xs → n < length xs → P (getD xs n d)
-all-at n d none h = absurd (not-suc-le-zero h)
-all-at zero d (more p ps) h = p
-all-at (suc n) d (more p ps) h = all-at n d ps (le-of-suc-le-suc h)
-
--- and of the first n
-all-take : {A : Type 0} {P : A → Type 0} (n : ℕ) {xs : List A} → All P xs → All P (take n xs)
-all-take zero h = none
-all-take (suc n) none = none
-all-take (suc n) (more h hs) = more h (all-take n hs)
+use Rattle.rules.proofs.All.{All, none, more, all-at, all-take}
+use Rattle.rules.proofs.Ids.{Up, end, step, same-eq}
+use Rattle.rules.proofs.Room.{above-absent}
 
 module _ {A : Type 0} (id : A → Id) where
   -- the first n rise
@@ -29,12 +18,6 @@ module _ {A : Type 0} (id : A → Id) where
   up-take zero u = end
   up-take (suc n) end = end
   up-take (suc n) (step a u) = step (all-take n a) (up-take n u)
-
-  -- an id is none of those above it
-  pub above-absent : (i : Id) {rs : List A} → All (λ q. below i (id q) ≡ true) rs → any (λ q. same (id q) i) rs ≡ false
-  unfolding any
-  above-absent i none = refl
-  above-absent i (more {a} h hs) = rw (same-sym (id a) i, below-apart i (id a) h) (above-absent i hs)
 
   -- an id has one record or none
   pub count-one : (i : Id) {rs : List A} → Up id rs → count (λ q. same (id q) i) rs ≡ bit (any (λ q. same (id q) i) rs)
@@ -44,7 +27,7 @@ module _ {A : Type 0} (id : A → Id) where
     where
       go : (t : Bool) → same (id r) i ≡ t → count (λ q. same (id q) i) rs ≡ bit (any (λ q. same (id q) i) rs) → bit t + count (λ q. same (id q) i) rs ≡ bit (t || any (λ q. same (id q) i) rs)
       go true e h =
-          let no : bit (any (λ q. same (id q) i) rs) ≡ 0 = ap bit (ap (λ (j : Id). any (λ q. same (id q) j) rs) (sym (same-eq (id r) i e)) ∙ above-absent (id r) a) in
+          let no : bit (any (λ q. same (id q) i) rs) ≡ 0 = ap bit (ap (λ (j : Id). any (λ q. same (id q) j) rs) (sym (same-eq (id r) i e)) ∙ above-absent id (id r) a) in
           omega arith
       go false e h = omega arith
 

@@ -7,8 +7,9 @@ use native.Mathlib.Nat.{not-suc-le-zero, le-of-suc-le-suc}
 use lib.ListN.{length, getD, set, replicate}
 use Rattle.rules.specs.Lists.{bit, any}
 use Rattle.rules.specs.Ids.{Id, same}
+use Rattle.rules.proofs.All.{all-at}
 use Rattle.rules.proofs.Ids.{Up, end, step, same-refl, below-apart}
-use Rattle.batch.proofs.Rising.{all-at, above-absent}
+use Rattle.rules.proofs.Room.{above-absent}
 use Rattle.marks.specs.Marks.{beside}
 
 module _ {A : Type 0} (id : A → Id) where
