@@ -24,9 +24,9 @@ data Stands {A : Type 0} (r : A) : List A → Type 0 where
   here : {rs : List A} → Stands r (r ∷ rs)
   later : {q : A} {rs : List A} → Stands r rs → Stands r (q ∷ rs)
 
-all-at : {A : Type 0} {P : A → Type 0} {r : A} {rs : List A} → All P rs → Stands r rs → P r
-all-at (more h hs) here = h
-all-at (more h hs) (later s) = all-at hs s
+at-stand : {A : Type 0} {P : A → Type 0} {r : A} {rs : List A} → All P rs → Stands r rs → P r
+at-stand (more h hs) here = h
+at-stand (more h hs) (later s) = at-stand hs s
 
 module _ {A : Type 0} (id : A → Id) where
   -- below all of them
@@ -46,7 +46,7 @@ module _ {A : Type 0} (id : A → Id) where
       let d : dropped id (id r) (r ∷ rs) ≡ rs = rw (same-refl (id r)) (dropped-absent id (id r) rs (over-absent (id r) a)) in
       ap (insert (λ x y. below (id x) (id y)) r) d ∙ inserts-first r a
   placed-own {r} (step {r = q} {rs} a u) (later s) =
-      let b : below (id q) (id r) ≡ true = all-at a s in
+      let b : below (id q) (id r) ≡ true = at-stand a s in
       rw (below-apart (id q) (id r) b, below-asym (id q) (id r) b) (ap (λ (l : List A). q ∷ l) (placed-own u s))
 
   settled-own : {rs qs : List A} → Up id qs → All (λ r. Stands r qs) rs → settled id qs rs ≡ qs
