@@ -19,7 +19,7 @@ use Rattle.rules.specs.Records.{records, sound-table}
 use Rattle.rules.specs.Board.{Board, Lawful, Pending, Confirmed, pending-most, confirmed-size, confirmed-most}
 use Rattle.rules.specs.Estimator.{is-pending, holds}
 use Rattle.rules.specs.Memory.{Lent, pending-records, confirmed-records, lay-confirmed, view}
-use Rattle.rules.proofs.All.{All, none, more}
+use Rattle.rules.proofs.All.{All, none, more, all-at}
 use Rattle.rules.proofs.Ids.{below-apart}
 use Rattle.rules.proofs.Memory.{pending-length}
 use Rattle.rules.proofs.Well.{WellPending}
@@ -29,7 +29,7 @@ use Rattle.batch.specs.Picked.{picked}
 use Rattle.batch.proofs.Batch.{none-raised}
 use Rattle.batch.proofs.Merging.{holds-raised, raised-confirmed}
 use Rattle.batch.proofs.Picked.{all-picked, picked-take, picked-back}
-use Rattle.batch.proofs.Rising.{all-at, under-at}
+use Rattle.batch.proofs.Rising.{under-at}
 use Rattle.batch.proofs.Settling.{raised-next}
 use Rattle.ready.specs.Ready.{Ready}
 use Rattle.ready.proofs.Facts.{confirmed-places, resolved-places, pending-sound, Long, long-same, long-after}
