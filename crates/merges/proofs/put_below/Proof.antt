@@ -1,7 +1,7 @@
 -- `merges::put_below` meets its contract. Assumes nothing.
 use borrow.Author.Needs.{needs}
 use denote.Ref.{now}
-use Rattle.merges.proofs.Turns.{put-in}
+use Rattle.merges.proofs.Opening.{put-in}
 use Rattle.merges.proofs.put_below.Statement.{statement}
 use Rattle.merges.proofs.put_below.Tie as tie
 
