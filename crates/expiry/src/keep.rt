@@ -38,19 +38,26 @@ fn passes(table: &[u8], size: usize, i: usize, off: usize, b: Bound) -> bool
     within(mem::u32_le(table, i * size + off), b)
 }
 
-// Keeps the records whose field is within the bound, in order, and zeroes the places that are left. The answer is how many stay.
+// Keeps the records whose field is within the bound, in order, and zeroes the places that are left. Few go, so those between two of them move as one. The answer
+// is how many stay.
 fn keep_passing(table: &mut [u8], size: usize, used: usize, off: usize, b: Bound) -> usize
     requires { ⌜ (off + 4 ≤ size) × (used * size ≤ length (now table)) ⌝ }
     ensures { λ r. ⌜ r ≡ length (keep (passing off b) (records size used (now (table .entry)))) ⌝ }
     ensures { λ _. ⌜ now (table .exit) ≡ laid size used (keep (passing off b) (records size used (now (table .entry)))) (now (table .entry)) ⌝ }
 {
     let mut k = 0;
+    let mut from = 0;
     let mut i = 0;
     while i < used {
-        let stays = passes(table, size, i, off, b);
-        k = table::keep_record(table, size, k, i, stays);
-        i += 1;
+        if passes(table, size, i, off, b) {
+            i += 1;
+        } else {
+            k = table::keep_run(table, size, k, from, i);
+            i += 1;
+            from = i;
+        }
     }
+    k = table::keep_run(table, size, k, from, used);
     mem::zero(table, k * size, used * size);
     k
 }
