@@ -1,13 +1,13 @@
 -- The loop that keeps the records that pass a test, and drops the others: those between two that go move down as one run. Assumes nothing.
 use mathlib.Core.Path.{_≡_, refl, sym, ap, ap₂, _∙_}
-use mathlib.Core.Bool.{Bool, true, false, cond}
+use mathlib.Core.Bool.{Bool, true, false}
 use mathlib.Core.List.{List, [], _∷_, _++_, append-assoc, append-nil}
 use Prim.Native.Nat.{ℕ, _+_, _-_, _*_, _≤_, _<_}
-use native.Mathlib.Nat.{add-mul, mul-le-mul-right, le-refl}
+use native.Mathlib.Nat.{add-mul, mul-le-mul-right}
 use native.Mathlib.Numerals.{add-one}
 use native.Mathlib.Omega.{arith}
 use lib.ListN.{length, take, drop, getD, length-append, length-drop, take-append-drop}
-use lib.Seq.{slice, slice-empty, length-slice, take-all, take-suc, take-add, take-paste, drop-paste, drop-drop, drop-append-le, length-take-le}
+use lib.Seq.{slice, slice-empty, length-slice, take-suc, take-add, take-paste, drop-paste, drop-drop, drop-append-le, length-take-le}
 use Rattle.lists.proofs.Cut.{drop-take}
 use Rattle.lists.proofs.Lists.{keep-append, keep-yes}
 use Rattle.rules.specs.Lists.{keep}

@@ -1,10 +1,8 @@
 -- `expiry::keep::keep_passing` meets its contract. Assumes nothing.
 use mathlib.Core.Path.{_≡_, sym, _∙_}
-use mathlib.Core.Bool.{true, false}
 use Prim.Native.Nat.{ℕ, _+_, _*_, _-_, _≤_}
 use native.Mathlib.Nat.{mul-le-mul-right}
 use native.Mathlib.Omega.{arith}
-use denote.Ref.{now}
 use Rattle.expiry.specs.Fields.{passing}
 use Rattle.ids.proofs.Records.{record-end}
 use Rattle.table.proofs.Runs.{Running, running-none, running-on, running-cut, running-end}
