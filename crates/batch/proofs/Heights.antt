@@ -1,7 +1,7 @@
 -- Confirmed records whose ids rise are known by what they hold: two such tables that hold the same heights for the same ids are one. Of equal first ids the
 -- heights agree; of different ones the lower is missing in the other table. Assumes nothing.
 use mathlib.Core.Path.{◌≡◌, refl, sym, ap, ap₂, subst, ◌∙◌}
-use mathlib.Core.Bool.{Bool, true, false, not, ◌&&◌, ◌||◌, cond, true≢false, or-false, and_true}
+use mathlib.Core.Bool.{Bool, true, false, not, ◌&&◌, ◌||◌, cond, true≢false, or-false, and-true}
 use mathlib.Core.List.{List, [], ◌∷◌}
 use Prim.Native.Nat.{ℕ}
 use lib.Dec.{eqb}
@@ -85,7 +85,7 @@ holds_become i B j h cs =
       where
         at : (t : Bool) → same c.id i ≡ t → ((same c.id j && eqb c.height h) && not t) ≡ (same c.id j && eqb c.height h)
         at true q = rw (ap (λ (a : Id). same a j) (same_eq c.id i q) ∙ e)
-        at false q = and_true (same c.id j && eqb c.height h)
+        at false q = and-true (same c.id j && eqb c.height h)
 
     go : (t : Bool) → same i j ≡ t → ((t && eqb B h) || any (λ c. (same c.id j && eqb c.height h) && not (same c.id i)) cs) ≡ cond t (eqb B h) (any (λ c. same c.id j && eqb c.height h) cs)
     go true e = ap (λ (t : Bool). eqb B h || t) (any_ext (λ c. (same c.id j && eqb c.height h) && not (same c.id i)) (λ c. false) (gone e) cs ∙ any_none cs) ∙ or-false (eqb B h)

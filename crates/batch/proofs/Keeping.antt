@@ -1,6 +1,6 @@
 -- Laws of `keep` and `any`: a keep of a keep tests both, and what is put in or changed passes as before. Assumes nothing.
 use mathlib.Core.Path.{◌≡◌, refl, ap, ◌∙◌, fun_ext}
-use mathlib.Core.Bool.{Bool, true, false, ◌&&◌, ◌||◌, cond, true≢false, and_false, and_comm}
+use mathlib.Core.Bool.{Bool, true, false, ◌&&◌, ◌||◌, cond, true≢false, and-false, and_comm}
 use mathlib.Core.List.{List, [], ◌∷◌, map}
 use Rattle.rules.specs.Lists.{any, keep, insert}
 use Rattle.rules.specs.Ids.{Id, same}
@@ -25,7 +25,7 @@ module _ {A : Type 0} where
     where
       go : (a t : Bool) → any (λ x. p x && t) xs ≡ (any p xs && t) → ((a && t) || any (λ x. p x && t) xs) ≡ ((a || any p xs) && t)
       go true true h = refl
-      go true false h = h ∙ and_false (any p xs)
+      go true false h = h ∙ and-false (any p xs)
       go false t h = h
 
   -- what one is put in

@@ -1,7 +1,7 @@
 -- How many confirmed records there will be is told without confirming any: each listed pending record that has none gets one, the second listing of an id finds
 -- it gone, and of the skipped heights the last decides. Assumes nothing.
 use mathlib.Core.Path.{◌≡◌, refl, sym, ap, ap₂, ◌∙◌}
-use mathlib.Core.Bool.{Bool, true, false, not, ◌&&◌, ◌||◌, cond, and_true, and_false}
+use mathlib.Core.Bool.{Bool, true, false, not, ◌&&◌, ◌||◌, cond, and-true, and-false}
 use mathlib.Core.List.{List, [], ◌∷◌}
 use mathlib.Core.Option.{Option, none, some}
 use Prim.Native.Nat.{ℕ, suc, ◌+◌, ◌≤◌}
@@ -78,7 +78,7 @@ confirming k B i s u = go (holds i B s.recent) refl (find i s.pending) (pending_
     go false e none g =
         record {
           pending = sym (dropped_absent (λ r. r.id) i s.pending g);
-          recent = rw (g, and_false) (omega arith);
+          recent = rw (g, and-false) (omega arith);
           others = λ j d. refl;
           rises = u;
         }
@@ -121,8 +121,8 @@ module _ (i : Id) (ids : List Id) (s t : Estimator) (u : Up (λ r. r.id) s.pendi
       (count_ext _ other (λ r. each r (same r.id i)) s.pending)
     where
       own : (r : Pending) (b : Bool) → same r.id i ≡ b → (b && ((b || listed ids r.id) && not (is_confirmed r.id s.recent))) ≡ (not (is_confirmed i s.recent) && b)
-      own r true e = ap (λ (j : Id). not (is_confirmed j s.recent)) (same_eq r.id i e) ∙ sym (and_true (not (is_confirmed i s.recent)))
-      own r false e = sym (and_false (not (is_confirmed i s.recent)))
+      own r true e = ap (λ (j : Id). not (is_confirmed j s.recent)) (same_eq r.id i e) ∙ sym (and-true (not (is_confirmed i s.recent)))
+      own r false e = sym (and-false (not (is_confirmed i s.recent)))
 
       its : (b : Bool) → count (λ r. b && same r.id i) s.pending ≡ bit (b && any (λ r. same r.id i) s.pending)
       its true = count_one (λ r. r.id) i u

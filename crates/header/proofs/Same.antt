@@ -4,7 +4,7 @@ use mathlib.Core.List.{List, [], ◌∷◌}
 use mathlib.Core.Bool.{Bool, true, false, ◌&&◌}
 use Prim.Native.Nat.{ℕ, zero, suc, ◌+◌, ◌*◌, ◌%◌, ◌/◌, ◌^◌, ◌≤◌, ◌<◌}
 use native.Mathlib.Omega.{arith}
-use borrow.Author.Tests.{eq-eqb, ne_eqb, eqb-true, eqb_false}
+use borrow.Author.Tests.{eq-eqb, ne_eqb, eqb-true, eqb-false}
 use lib.Dec.{T, eqb, ltb, ltb→lt, lt→ltb, lit<}
 use lib.Ieee.Fits.{and_i, and_l, and_r}
 use lib.Pow.{are_bytes}
@@ -21,8 +21,8 @@ digits a b A B h k = go (eqb a b) refl (eqb A B) refl
   where
     go : (x : Bool) → eqb a b ≡ x → (y : Bool) → eqb A B ≡ y → eqb (a + 256 * A) (b + 256 * B) ≡ (x && y)
     go true e true f = eq-eqb (a + 256 * A) (b + 256 * B) (omega (arith, eqb-true a b e, eqb-true A B f))
-    go true e false f = ne_eqb (a + 256 * A) (b + 256 * B) (λ g. eqb_false A B f (omega arith))
-    go false e y f = ne_eqb (a + 256 * A) (b + 256 * B) (λ g. eqb_false a b e (omega arith))
+    go true e false f = ne_eqb (a + 256 * A) (b + 256 * B) (λ g. eqb-false A B f (omega arith))
+    go false e y f = ne_eqb (a + 256 * A) (b + 256 * B) (λ g. eqb-false a b e (omega arith))
 
 pub le_eqb : (xs ys : List ℕ) → length xs ≡ length ys → T (are_bytes xs) → T (are_bytes ys) → eqb (le xs) (le ys) ≡ same xs ys
 unfolding le same

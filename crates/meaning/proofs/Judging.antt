@@ -6,7 +6,7 @@ use Prim.Native.Nat.{ℕ, ◌%◌, ◌≤◌, ◌<◌}
 use native.Mathlib.Omega.{arith}
 use lib.Dec.{ltb, eqb}
 use lib.ListN.{length}
-use borrow.Author.Tests.{ltb-false, eqb_false, not-false}
+use borrow.Author.Tests.{ltb-false, eqb-false, not-false}
 use Rattle.kinds.specs.declared.FeeRate.{FeeRate}
 use Rattle.kinds.specs.declared.Height.{Height}
 use Rattle.kinds.specs.declared.State.{State}
@@ -41,7 +41,7 @@ module _ (k : Board) (s : State) where
       (λ r. taken (record { absent = q; place = place (not-false (sound_pending k s.pending xs) p) r }, ltb-false rate.0 floor b)))))
     where
       place : sound_pending k s.pending xs ≡ true → eqb s.pending (pending_capacity k xs) ≡ false → length (pending_records k s.pending xs) < pending_capacity k xs
-      place p r = omega (arith, pending_length k s.pending xs, pending_within k s.pending xs p, eqb_false s.pending (pending_capacity k xs) r)
+      place p r = omega (arith, pending_length k s.pending xs, pending_within k s.pending xs p, eqb-false s.pending (pending_capacity k xs) r)
 
   pub leave_judged : (xs : List ℕ) (i : Id)
       → Judged s xs (accepted_pending k s (without i (pending_records k s.pending xs)) xs) (Unit {0}) (leave_call k s xs i)

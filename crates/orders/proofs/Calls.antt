@@ -8,7 +8,7 @@ use native.Mathlib.Omega.{arith}
 use lib.Dec.{T, eqb}
 use lib.ListN.{length}
 use lib.Pow.{are_bytes}
-use borrow.Author.Tests.{le-ltb, eq-eqb, eqb_false}
+use borrow.Author.Tests.{le-ltb, eq-eqb, eqb-false}
 use Rattle.kinds.specs.declared.Last.{Last}
 use Rattle.kinds.specs.declared.State.{State}
 use Rattle.kinds.specs.Answers.{Answer, done, damaged, below_floor, already_pending, pending_full, absent}
@@ -69,7 +69,7 @@ module _ (k : Board) (law : Lawful k) (last : Last) (recent : ℕ) (xs : List �
 
   -- a place is free
   below_places : {rs : List Pending} → Tabled k xs rs → eqb (length rs) places ≡ false → length rs < places
-  below_places {rs} t f = omega (arith, t.room, eqb_false (length rs) places f)
+  below_places {rs} t f = omega (arith, t.room, eqb-false (length rs) places f)
 
   entry_leads : (x : Entry) {rs : List Pending} → Tabled k xs rs → entering k x (st rs) (tab rs) ≡ outcome (came_answer places x rs) (st (come places x rs)) (tab (come places x rs))
   unfolding enter_call

@@ -5,7 +5,7 @@ use Prim.Native.Nat.{ℕ, zero, suc, ◌+◌, ◌-◌, ◌*◌, ◌/◌, ◌%◌
 use native.Mathlib.Nat.{lt_of_not-le}
 use native.Mathlib.Omega.{arith}
 use lib.Dec.{leb, ltb, eqb}
-use borrow.Author.Tests.{leb-true, leb-false, ltb-true, ltb-false, eqb-true, eqb_false, ne_eqb}
+use borrow.Author.Tests.{leb-true, leb-false, ltb-true, ltb-false, eqb-true, eqb-false, ne_eqb}
 use Rattle.rules.specs.Lists.{bit}
 use Rattle.rules.specs.Ladder.{buckets}
 use Rattle.rules.specs.Counts.{columns, gains_at}
@@ -80,7 +80,7 @@ pick (suc n) b m h = go (eqb n b) refl (pick n b m)
   where
     go : (t : Bool) → eqb n b ≡ t → (b < n → sum n (λ q. cond (eqb q b) m 0) ≡ m) → cond t m 0 + sum n (λ q. cond (eqb q b) m 0) ≡ m
     go true e ih = omega (arith, miss n b m (omega (arith, eqb-true n b e)))
-    go false e ih = omega (arith, ih (lt_of_not-le (λ q. eqb_false n b e (omega arith))))
+    go false e ih = omega (arith, ih (lt_of_not-le (λ q. eqb-false n b e (omega arith))))
 
 -- ---- the places of all buckets: rows of 25
 
