@@ -1,5 +1,7 @@
 // The body of a block, over the horizon. It is what its definition in rules/specs/Calls says, for every input; it asks nothing of its caller. First the whole
 // block is judged (`verdict`), then, if it is not refused, its steps are taken (`accept`).
+#![tactic(auto)]
+
 mod accept;
 
 ghost use Rattle.std.specs.Prelude.{◌≡◌};

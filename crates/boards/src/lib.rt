@@ -1,4 +1,6 @@
 // What a horizon stands for in numbers: how wide a record and a column of its board are, how its counts decay, and from time to column.
+#![tactic(auto)]
+
 mod columns;
 mod waits;
 

@@ -1,4 +1,6 @@
 // Records by their id: a pending record goes.
+#![tactic(auto)]
+
 ghost use Rattle.std.specs.Prelude.{◌≡◌, true, length};
 ghost use Rattle.rules.specs.Records.{sound_table};
 ghost use Rattle.rules.specs.Board.{board_of, pending_most};

@@ -1,4 +1,6 @@
 // The listed ids of a block, all at once: those that are pending go to the confirmed records, and are counted.
+#![tactic(auto)]
+
 ghost use Rattle.std.specs.Prelude.{◌≡◌, ◌≤◌, eqb, length, take};
 ghost use Rattle.kinds.specs.Answers.{done};
 ghost use Rattle.rules.specs.Lists.{count};

@@ -1,5 +1,7 @@
 // Decay: every count times the factor, once for each height. A bucket's counts are taken out once, multiplied for all the heights, and stored once. A row, the
 // counts of one kind of one bucket, that holds only zeros is not written: the factor is above zero, so that each of them would be stored as it stands.
+#![tactic(auto)]
+
 ghost use Rattle.std.specs.Prelude.{◌≡◌, cond, ◌++◌, map, ◌≤◌, ◌<◌, length, take, drop};
 ghost use Rattle.rules.specs.Ladder.{buckets};
 ghost use Rattle.rules.specs.Counts.{columns, places_of_counts, apply_decay};

@@ -1,6 +1,8 @@
 // What a line of a script does to a board's lent memory and to its state, and what it is answered with. The page of scripts is the definition; what a
 // line says comes from `lines`, and the replies are printed by the program `replay`.
 // What is done to the lent memory itself is in `desk_lays`, and the estimator's calls are in `desk_calls`.
+#![tactic(auto)]
+
 ghost use Rattle.std.specs.Prelude.{◌≡◌};
 ghost use Rattle.rules.specs.Slices.{before, after};
 ghost use Rattle.desk_calls.specs.Calls.{did};

@@ -10,7 +10,7 @@ use lines::Line;
 use print::put;
 
 // What a line is answered with: nothing, a number, or a number and what it carries.
-#[derive(Drop)]
+#[derive(Clone, Copy)]
 pub enum Reply {
     Silent,
     Number(u32),
@@ -18,7 +18,7 @@ pub enum Reply {
 }
 
 // What a line has done: whether it fits the lent memory, what it is answered with, and the state after it.
-#[derive(Drop)]
+#[derive(Clone, Copy)]
 pub struct Done {
     pub fits: bool,
     pub reply: Reply,

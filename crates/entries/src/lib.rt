@@ -1,6 +1,8 @@
 // The bodies of entering and of leaving, over the horizon. Each is what its definition in rules/specs/Calls says, for every input; neither asks anything of
 // its caller. Both judge the table, search it once, and put the record in or take it out where the search has ended; an enter below the floor ends before it
 // searches.
+#![tactic(auto)]
+
 ghost use Rattle.std.specs.Prelude.{◌≡◌};
 ghost use Rattle.kinds.specs.Answers.{enter_answer, leave_answer};
 ghost use Rattle.rules.specs.Board.{board_of};

@@ -1,4 +1,6 @@
 // The body of an estimate, over the horizon. It is what its definition in rules/specs/Calls says, for every input; it asks nothing of its caller.
+#![tactic(auto)]
+
 ghost use Rattle.std.specs.Prelude.{◌≡◌};
 ghost use Rattle.kinds.specs.Answers.{estimate_answer};
 ghost use Rattle.rules.specs.Board.{board_of};

@@ -1,5 +1,7 @@
 // THE PUBLIC CALLS, of the base board. Each is what its definition in rules/specs/Calls or format/specs/Calls says, for every input; none asks anything of
 // its caller. The bodies are in `starts`, `entries`, `blocks`, `estimates` and `history`.
+#![tactic(auto)]
+
 ghost use Rattle.std.specs.Prelude.{◌≡◌};
 ghost use Rattle.kinds.specs.Answers.{start_answer, enter_answer, leave_answer, block_answer, estimate_answer, bucket_answer, write_answer, read_answer};
 ghost use Rattle.rules.specs.Ladder.{bucket_for};

@@ -9,7 +9,7 @@ ghost use Rattle.expiry.specs.Fields.{in_bound, passing, waiting};
 use kinds::{CONFIRMED_SIZE, HEIGHT_AT, Height, MAX_CONF_TARGET, THROUGH_AT};
 
 // Which numbers pass.
-#[derive(Drop)]
+#[derive(Clone, Copy)]
 pub(crate) enum Bound {
     Below(u32),
     AtLeast(u32),

@@ -1,4 +1,6 @@
 // What has been outwaited at a height: pending records gain the columns that they have outwaited, and records that need no more waiting go.
+#![tactic(auto)]
+
 mod keep;
 
 ghost use Rattle.std.specs.Prelude.{◌≡◌, [], ◌∷◌, map, ◌*◌, ◌≤◌, ◌<◌, length, get_or, set};

@@ -1,6 +1,8 @@
 // The bodies of the exported calls, over the horizon: each judges the words that it is given, makes the call on the state that they hold, and tells its
 // outcome in words; the lookup, which is of no board, has numbers alone. Each is what its definition in boundary/specs/Calls says, for every input; none asks
 // anything of its caller. Words that hold no state, an id that is not 32 bytes and a `carried` of no words are Damaged, and nothing is changed.
+#![tactic(auto)]
+
 ghost use Rattle.std.specs.Prelude.{◌≡◌, []};
 ghost use Rattle.rules.specs.Slices.{before, after};
 ghost use Rattle.boundary.specs.Calls.{izr_bucket_index_for_rate, seen, izr_new, izr_tx_entered, izr_tx_left, izr_block_connected, izr_estimate, izr_to_history_bytes, izr_from_history_bytes};

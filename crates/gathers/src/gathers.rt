@@ -11,7 +11,7 @@ use script::hex::{Decoded, hex_into, id_in};
 use script::words::word_at;
 
 // Where the bytes of a line are.
-#[derive(Drop)]
+#[derive(Clone, Copy)]
 enum Source {
     // The line has none.
     Nowhere,

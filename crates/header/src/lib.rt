@@ -1,4 +1,6 @@
 // The header, read: magic, version and what stands after it, last height, bucket count.
+#![tactic(auto)]
+
 ghost use Rattle.std.specs.Prelude.{◌≡◌, ◌≤◌, length, drop};
 ghost use Rattle.format.specs.Parts.{begun, is_read};
 ghost use Rattle.format.specs.File.{version_told, with_bucket_count, read_start, read_after, read_head};
@@ -13,7 +15,7 @@ use version::{after_len, number_of};
 pub const MAGIC: u64 = 0x5345454645535242;
 
 // What the header says, or why it is refused.
-#[derive(Drop)]
+#[derive(Clone, Copy)]
 pub enum Header {
     BadMagic,
     UnknownVersion(u32),

@@ -1,4 +1,6 @@
 // Heights advanced over the lent memory: one by one while there are records, and at once where only counts are left.
+#![tactic(auto)]
+
 ghost use Rattle.std.specs.Prelude.{◌≡◌, not, ◌&&◌, ◌+◌, ◌^◌, ◌<◌, eqb, ltb};
 ghost use Rattle.kinds.specs.Answers.{done};
 ghost use Rattle.rules.specs.Board.{board_of};

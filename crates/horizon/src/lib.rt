@@ -1,6 +1,8 @@
 // THE PUBLIC CALLS, of the wide board: the slower horizon, whose columns are six blocks each. Each is what its definition in rules/specs/Calls or
 // format/specs/Calls says, for every input; none asks anything of its caller. The bodies are those of the base board's calls (crate `estimator`), told the
 // other board and version 3 of the file. A rate has the same bucket on both boards.
+#![tactic(auto)]
+
 ghost use Rattle.std.specs.Prelude.{◌≡◌};
 ghost use Rattle.kinds.specs.Answers.{start_answer, enter_answer, leave_answer, block_answer, estimate_answer, write_answer, read_answer};
 ghost use Rattle.rules.specs.Board.{wide};

@@ -1,5 +1,7 @@
 // Ids: how two of them stand, whether those of a table's records rise, and where one stands among them or belongs.
 // `order`: the order of ids.
+#![tactic(auto)]
+
 mod order;
 
 ghost use Rattle.std.specs.Prelude.{◌≡◌, true, map, ◌*◌, ◌≤◌, length};
@@ -10,7 +12,7 @@ ghost use Rattle.ids.specs.Search.{find_in};
 pub use order::{Order, compare, ids_rise, is_below};
 
 // What a search for an id finds: the number of its record, or of the place where it belongs.
-#[derive(Drop)]
+#[derive(Clone, Copy)]
 pub enum Found {
     At(usize),
     Gap(usize),

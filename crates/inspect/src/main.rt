@@ -1,5 +1,7 @@
 // Reads a history file of either board on standard input, one as large as a node's, and prints what `show` prints, for the targets of that board's columns. With
 // `--chain N` it first says whether the file goes with a chain of height N. How it is read is in `views`, what is printed in `report` and `premise`.
+#![tactic(auto)]
+
 ghost use Rattle.std.specs.Prelude.{◌≡◌};
 ghost use Rattle.inspect.specs.Words.{chain_of};
 

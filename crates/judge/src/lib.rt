@@ -1,4 +1,6 @@
 // What is judged: counts, tables, and all of the lent memory.
+#![tactic(auto)]
+
 mod counts;
 mod tables;
 

@@ -13,7 +13,7 @@ use script::words::word_at;
 
 // A line: its operation, and the values of its fields in their order. The value of bytes in digits, and of ids, is where they begin; of a last height
 // one more than it, and 0 for `-`; of one of two words 0 or 1, in the order of the page.
-#[derive(Drop)]
+#[derive(Clone, Copy)]
 pub struct Line {
     pub operation: Operation,
     pub a: u64,
@@ -23,7 +23,7 @@ pub struct Line {
 }
 
 // What was taken from a line: where the next word begins, whether this word and all before it fit, and the value of this one.
-#[derive(Drop)]
+#[derive(Clone, Copy)]
 struct Taken {
     at: usize,
     fits: bool,

@@ -1,4 +1,6 @@
 // Which records of a table are listed: a byte for each record, by its place. And the records whose mark is 0 stay.
+#![tactic(auto)]
+
 ghost use Rattle.std.specs.Prelude.{◌≡◌, true, map, ◌++◌, ◌*◌, ◌≤◌, length, take, drop, replicate};
 ghost use Rattle.rules.specs.Ids.{rising};
 ghost use Rattle.rules.specs.Records.{records, id_of, laid};

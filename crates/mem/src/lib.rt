@@ -1,4 +1,6 @@
 // Bytes of a lent slice: numbers in little-endian bytes, read and put; numbers in big-endian bytes, read; bytes moved, zeroed, and copied in.
+#![tactic(auto)]
+
 mod moves;
 
 ghost use Rattle.std.specs.Prelude.{◌≡◌, ◌+◌, ◌≤◌, ◌<◌, length};

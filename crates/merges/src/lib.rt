@@ -1,4 +1,6 @@
 // New confirmed records are merged into the table in place, from the last to the first. Each record moves at most once, together with those between two new ones.
+#![tactic(auto)]
+
 ghost use Rattle.std.specs.Prelude.{◌≡◌, true, map, ◌+◌, ◌*◌, ◌≤◌, ◌<◌, length};
 ghost use Rattle.rules.specs.Ids.{rising};
 ghost use Rattle.rules.specs.Board.{confirmed_size, confirmed_bytes};

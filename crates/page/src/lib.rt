@@ -1,5 +1,7 @@
 // The scripts' page: the first words of its lines, and the fields that follow each.
 // `page`: the operations and their fields. `limits`: the page's bounds.
+#![tactic(auto)]
+
 mod limits;
 mod page;
 

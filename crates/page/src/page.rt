@@ -11,7 +11,7 @@ use check::same;
 use kinds::{Horizon, ID_SIZE};
 
 // An operation, by its first word.
-#[derive(Drop)]
+#[derive(Clone, Copy)]
 pub enum Operation {
     // No operation of the page.
     Unfit,
@@ -37,7 +37,7 @@ pub enum Operation {
 }
 
 // What a word of a line says.
-#[derive(Drop)]
+#[derive(Clone, Copy)]
 pub enum Field {
     // No word.
     Nothing,
@@ -62,7 +62,7 @@ pub enum Field {
 }
 
 // The fields of an operation, in the order of the line.
-#[derive(Drop)]
+#[derive(Clone, Copy)]
 pub struct Fields(pub Field, pub Field, pub Field, pub Field);
 
 // Whether the word is this text.

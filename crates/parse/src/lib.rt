@@ -1,4 +1,6 @@
 // The history file: its header, put, its buckets, and the whole of it, judged before anything is stored.
+#![tactic(auto)]
+
 mod buckets;
 mod head;
 
@@ -15,7 +17,7 @@ use kinds::{BUCKETS_SIZE, FileVersion, Last};
 use tables::read_tables;
 
 // The header of a file, or why the file is refused; and how many records each table has.
-#[derive(Drop)]
+#[derive(Clone, Copy)]
 pub struct Checked {
     pub header: Header,
     pub pending: usize,

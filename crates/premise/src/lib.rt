@@ -1,5 +1,7 @@
 // Whether a file goes with a chain, in plain words: what `inspect` says before all else. What a count stands for rests on blocks that rise; a file that is ahead of the
 // chain, or far behind it, has none for a while.
+#![tactic(auto)]
+
 ghost use Rattle.std.specs.Prelude.{◌≡◌};
 ghost use Rattle.print.specs.Page.{page, writes};
 ghost use Rattle.premise.specs.Premise.{between, beside, premise};
@@ -8,7 +10,7 @@ use kinds::{Height, Last, MAX_GAP};
 use print::{put, put_decimal};
 
 // The chain's height, where it is told.
-#[derive(Drop)]
+#[derive(Clone, Copy)]
 pub enum Chain {
     Untold,
     Tip(Height),

@@ -1,5 +1,7 @@
 // Text put into a lent buffer at a cursor. Each function answers the next cursor. Where there is no room for the whole piece, nothing is put
 // and the cursor stays.
+#![tactic(auto)]
+
 ghost use Rattle.std.specs.Prelude.{◌≡◌, [], ◌∷◌};
 ghost use Rattle.print.specs.Page.{page, write};
 ghost use Rattle.print.specs.Numerals.{decimal};

@@ -1,5 +1,7 @@
 // The Reader of the file's bytes, and what is taken through it. It is a thin record that holds what is left of them; its step takes the record apart and
 // calls `codec::numbers` on parts of the lent bytes. A struct that holds a reference is walked by hand: what is over it takes plain parameters.
+#![tactic(auto)]
+
 ghost use Rattle.std.specs.Prelude.{◌≡◌, ◌+◌, ◌≤◌, length, take, drop};
 ghost use Rattle.mem.specs.Le.{le_at};
 

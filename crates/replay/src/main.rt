@@ -1,6 +1,8 @@
 // Runs a script on standard input over memory of its own, and writes what each line is answered with. What a line asks for is read by `lines`, and done by
 // `desk`, over as much of the memory as is lent; this program has the loop, the questions and the words.
 // `run`: line by line. `asks`: what changes nothing. `says`: what is written. `parts`: numbers and slices cut to what there is.
+#![tactic(auto)]
+
 ghost use Rattle.std.specs.Prelude.{◌≡◌, length};
 
 use libc::{STDIN_FILENO, STDOUT_FILENO};

@@ -10,7 +10,7 @@ use lines::{Line, asked};
 use page::{MOST_COUNTS, MOST_PENDING, MOST_RECENT, Operation};
 
 // What a run keeps of a board.
-#[derive(Drop)]
+#[derive(Clone, Copy)]
 struct Loan {
     // Its `lend` was there.
     begun: bool,
@@ -23,7 +23,7 @@ struct Loan {
 }
 
 // What a run keeps between two lines.
-#[derive(Drop)]
+#[derive(Clone, Copy)]
 struct Progress {
     // Every line so far fits.
     fits: bool,
@@ -36,7 +36,7 @@ struct Progress {
 }
 
 // What a line leaves: whether it fits, its board's state, and how many bytes are kept.
-#[derive(Drop)]
+#[derive(Clone, Copy)]
 struct Left {
     fits: bool,
     state: State,

@@ -1,5 +1,7 @@
 // What is printed of a history file, as text in a lent buffer: over how many bytes a file may have, how much room there is for its records, the chain's height, and the
 // board whose file it is.
+#![tactic(auto)]
+
 mod lines;
 
 ghost use Rattle.std.specs.Prelude.{◌≡◌, ◌/◌, length};

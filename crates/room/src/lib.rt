@@ -1,5 +1,7 @@
 // Whether the confirmed table has room for a block's list: answer 7, judged before anything is written.
 // `skipped`: what the skipped heights leave. `count`: how many confirmed records there will be.
+#![tactic(auto)]
+
 mod count;
 mod skipped;
 

@@ -1,4 +1,6 @@
 // The estimate's scan: from the highest bucket to the lowest both counts of a column are summed, and the last bucket that passes gives the rate.
+#![tactic(auto)]
+
 ghost use Rattle.std.specs.Prelude.{◌≡◌, ◌≤◌, ◌<◌, length};
 ghost use Rattle.rules.specs.Ladder.{buckets};
 ghost use Rattle.rules.specs.Counts.{columns, places_of_counts};
@@ -8,7 +10,7 @@ ghost use Rattle.scan.specs.Sums.{estimated, shown};
 use kinds::{BUCKET_COUNT, Estimated, MAX_CONF_TARGET, MIN_OBSERVATIONS, SUCCESS_THRESHOLD};
 
 // The sums on the way down, and the bucket that gives the rate so far: BUCKET_COUNT where none does.
-#[derive(Drop)]
+#[derive(Clone, Copy)]
 pub(crate) struct Scan {
     confirmed: f64,
     resolved: f64,

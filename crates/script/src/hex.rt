@@ -37,7 +37,7 @@ fn unhex(word: &[u8], out: &mut [u8])
 }
 
 // How many bytes were put, if the word is pairs of digits.
-#[derive(Drop)]
+#[derive(Clone, Copy)]
 pub enum Decoded {
     Bytes(usize),
     Bad,
@@ -59,7 +59,7 @@ pub fn hex_into(word: &[u8], out: &mut [u8]) -> Decoded
 }
 
 // An id, if `ok`.
-#[derive(Drop)]
+#[derive(Clone, Copy)]
 pub struct Id {
     pub ok: bool,
     pub bytes: [u8; 32],

@@ -33,7 +33,7 @@ fn bits_of(x: f64) -> u64
 }
 
 // A sum on the way: both parts are below 65521.
-#[derive(Drop)]
+#[derive(Clone, Copy)]
 pub struct Sum {
     pub a: u32,
     pub b: u32,

@@ -1,4 +1,6 @@
 // The records of a file, in any order and with repeats, brought into a lent table where their ids rise. Of a repeated id the last record holds.
+#![tactic(auto)]
+
 mod once;
 mod renew;
 

@@ -1,4 +1,6 @@
 // Listed pending records are settled: each is counted, and its confirmed record, if it has one, gets the block's height.
+#![tactic(auto)]
+
 ghost use Rattle.std.specs.Prelude.{◌≡◌, true, [], ◌*◌, ◌≤◌, ◌<◌, leb, ltb, length, get_or};
 ghost use Rattle.rules.specs.Ladder.{last_bucket};
 ghost use Rattle.rules.specs.Counts.{places_of_counts, gain};

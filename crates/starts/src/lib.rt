@@ -1,4 +1,6 @@
 // The body of a fresh start, over the horizon. It is what its definition in rules/specs/Calls says, for every input; it asks nothing of its caller.
+#![tactic(auto)]
+
 ghost use Rattle.std.specs.Prelude.{◌≡◌};
 ghost use Rattle.kinds.specs.Answers.{start_answer};
 ghost use Rattle.rules.specs.Board.{board_of};

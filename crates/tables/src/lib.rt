@@ -1,4 +1,6 @@
 // The two tables of a file, and its end.
+#![tactic(auto)]
+
 ghost use Rattle.std.specs.Prelude.{◌≡◌, true, false, ◌≤◌, length, drop};
 ghost use Rattle.rules.specs.Board.{confirmed_most};
 ghost use Rattle.mem.specs.Le.{le_at};
@@ -12,14 +14,14 @@ use reader::{number, part};
 use version::record_size;
 
 // How many records a table has, where `ok` says that the file has them all.
-#[derive(Drop)]
+#[derive(Clone, Copy)]
 pub struct Listing {
     pub ok: bool,
     pub count: usize,
 }
 
 // How many records each table has, where `ok` says that the tables are good and end the file.
-#[derive(Drop)]
+#[derive(Clone, Copy)]
 pub struct Sizes {
     pub ok: bool,
     pub pending: usize,

@@ -1,4 +1,6 @@
 // Whether a block is refused, and why. All is judged over what is only lent to be read, so a refusal cannot have written.
+#![tactic(auto)]
+
 ghost use Rattle.std.specs.Prelude.{◌≡◌};
 ghost use Rattle.kinds.specs.Answers.{block_answer};
 ghost use Rattle.rules.specs.Board.{board_of};

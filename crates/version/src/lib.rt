@@ -1,4 +1,6 @@
 // What one version of the file differs from another in, as numbers.
+#![tactic(auto)]
+
 ghost use Rattle.std.specs.Prelude.{◌≡◌, ◌≤◌, length};
 ghost use Rattle.rules.specs.Board.{pending_size};
 ghost use Rattle.format.specs.File.{version_told};

@@ -1,4 +1,6 @@
 // Runs what the programs do over the files in data/, one after the other: inputs that a program's own run, on one file, does not have.
+#![tactic(auto)]
+
 use kinds::Height;
 use libc::STDOUT_FILENO;
 use premise::Chain;

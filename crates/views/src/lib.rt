@@ -1,5 +1,7 @@
 // What the programs do: a history is read from one descriptor, and what it tells is written to another. The buffer stands in a proved signature: it has one byte more
 // than the longest file, by which a longer one is known.
+#![tactic(auto)]
+
 ghost use Rattle.std.specs.Prelude.{◌<◌, ◌≡◌, length, take};
 ghost use Rattle.io.specs.Counts.{IsPrefixLen};
 ghost use Rattle.kinds.specs.declared.Horizon.{Horizon};
