@@ -1,0 +1,13 @@
+-- `bucket::row::row_out` meets its contract. Assumes nothing.
+use mathlib.Core.Path.{◌≡◌}
+use Prim.Native.Nat.{◌-◌, ◌≤◌}
+use lib.ListN.{length}
+use Rattle.lists.specs.Part.{part}
+use Rattle.lists.proofs.Swept.{swept}
+use Rattle.bucket.proofs.row.row_out.Given as goal
+
+abbrev pub invariant-loop-i : goal.invariant-loop-i
+invariant-loop-i l = (l.i ≤ 25) × (length l.initial.row ≡ 25) × (l.row ≡ swept l.initial.row (part 25 l.b l.counts) l.i)
+
+abbrev pub decreases-loop-i : goal.decreases-loop-i
+decreases-loop-i l = 25 - l.i

@@ -1,0 +1,8 @@
+-- `mem::u32_le` meets its contract.
+-- Assumes nothing.
+use native.Mathlib.Omega.{arith}
+use Rattle.mem.proofs.Laws.{le_at_4}
+use Rattle.mem.proofs.u32_le.Goals as goal
+
+pub returns : goal.returns
+returns c = let a = c.args in omega (arith, le_at_4 a.s.now a.at (omega arith))
