@@ -108,7 +108,7 @@ module _ (n : ℕ) where
       let d = not-true _ (and_left (not (same x.id y.id)) _ (and_left (every (λ z. not (same x.id z.id)) (y ∷ es)) (distinct (y ∷ es)) w.apart)) in
       let q = not-true _ (and_left (not (is_pending y.id rs)) _ (and_right (not (is_pending x.id rs)) _ w.new_ids)) in
       ap (come_all es) (entries_swap n x y rs d (first_new x w) q (omega (arith, w.room)))
-  come_reordered (after x r) w = come_reordered r (next_welcome x w)
+  come_reordered {rs = rs} (after x {es = es} {fs = fs} r) w = come_reordered {rs = come n x rs} r (next_welcome x w)
   come_reordered (and_then r q) w = come_reordered r w ∙ come_reordered q (welcome_reordered r w)
 
 -- ---- of memory that holds records, and of whatever is given
