@@ -31,7 +31,7 @@ if [ -z "$file" ] && [ ! -p /dev/stdin ] && [ ! -f /dev/stdin ]; then
 fi
 
 # ---- the program: newer than all that it is made of, or else built anew
-program=$top/target/bin/$name
+program=$top/crates/$name/out/$name
 parts=$(awk -v name="$name" '
     { sub(/#.*/, "") } split($0, half, ":") == 2 { gsub(/[ \t]/, "", half[1]); needs[half[1]] = half[2] }
     function visit(n,   all, i) { if (!(n in needs) || n in seen) return; seen[n]; print n; split(needs[n], all, " "); for (i in all) visit(all[i]) }
@@ -40,25 +40,22 @@ parts=$(awk -v name="$name" '
 changed() { # whether anything that the program is made of is newer
     local part made=("$top/crates.txt")
     for part in $parts; do made+=("$top/crates/$part"); done
-    [ -n "$(find "${made[@]}" -name must-fail -prune -o -newer "$program" -print -quit)" ]
+    [ -n "$(find "${made[@]}" \( -name must-fail -o -name out \) -prune -o -newer "$program" -print -quit)" ]
 }
 
 build() { # says what it does, and which crate it is at
     command -v rt >/dev/null || die "rt is not on the path: the Rattle kit has it, and it proves and builds the program"
-    local all line n=0
-    all=$(echo "$parts" | wc -l)
+    local line
     if [ -e "$program" ]; then
         echo "$name: the sources have changed; what depends on the change is proved again" >&2
     else
-        echo "$name: first $all crates are proved, which takes about 5 minutes on two processors" >&2
+        echo "$name: first $(echo "$parts" | wc -l) crates are proved, which takes some minutes" >&2
     fi
-    (cd "$top" && rt check "$name") </dev/null 2>&1 | while IFS= read -r line; do
+    (cd "$top/crates/$name" && rt run) </dev/null 2>&1 >/dev/null | while IFS= read -r line; do
         case $line in
-        *" (unchanged "*) n=$((n + 1)) ;;
-        "rt: "*" proved ("*) n=$((n + 1)) && echo "  $n of $all: ${line#rt: }" ;;
-        "rt: "*) echo "  ${line#rt: }" ;;
+        "crate "* | "rt: "*) echo "  ${line#rt: }" ;;
         esac
-    done >&2 || die "the program is not built: rt check $name says why"
+    done >&2 || die "the program is not built: rt check in crates/$name says why"
     touch "$program"
 }
 if [ ! -x "$program" ] || changed; then build; fi

@@ -1,11 +1,11 @@
 //! Links the static library of the crate `izrughem`. IZRUGHEM_LIB names the folder that has libizrughem.a; where it is not set the library is proved and
-//! built here, by `rt staticlib izrughem` in the repository. The first time that takes minutes, and cargo shows nothing of what a build script prints: so
+//! built here, by `rt lib` in crates/izrughem. The first time that takes minutes, and cargo shows nothing of what a build script prints: so
 //! it is said on the terminal too, if there is one. `cargo build -vv` shows all.
 
 use std::fmt::Display;
 use std::fs::OpenOptions;
 use std::io::Write;
-use std::path::PathBuf;
+use std::path::{Path, PathBuf};
 use std::process::{Command, exit};
 use std::time::Instant;
 use std::{env, fs};
@@ -53,18 +53,26 @@ fn say(line: impl Display) {
 /// The folder of the library, once `rt` has proved and built it.
 fn proved() -> PathBuf {
     let root = fs::canonicalize(REPOSITORY).unwrap_or_else(|error| fail(format_args!("{REPOSITORY}: {error}")));
-    for input in ["crates", "crates.txt"] {
-        println!("cargo:rerun-if-changed={}", root.join(input).display());
+    println!("cargo:rerun-if-changed={}", root.join("crates.txt").display());
+    for part in parts(&root.join("crates")) {
+        println!("cargo:rerun-if-changed={}", part.display());
     }
-    say("proving the crate izrughem and those below it, then building target/staticlib/libizrughem.a");
-    say("(about 5 minutes from nothing, about 1 where the crates below are proved already)");
+    let crate_folder = root.join("crates/izrughem");
+    say("proving the crate izrughem and those below it, then building crates/izrughem/out/libizrughem.a");
+    say("(some minutes from nothing, seconds where the crates below are proved already)");
     let begun = Instant::now();
-    match Command::new("rt").args(["staticlib", "izrughem"]).current_dir(&root).status() {
+    match Command::new("rt").arg("lib").current_dir(&crate_folder).status() {
         Ok(status) if status.success() => say(format_args!("the library is built, after {} s", begun.elapsed().as_secs())),
-        Ok(status) => fail(format_args!("rt staticlib izrughem: {status}; the library is not built")),
+        Ok(status) => fail(format_args!("rt lib in crates/izrughem: {status}; the library is not built")),
         Err(error) => {
             fail(format_args!("rt, the Rattle kit's command, is needed and does not run ({error}): put it on the path, {OR_TAKE_ONE}"))
         }
     }
-    root.join("target/staticlib")
+    crate_folder.join("out")
+}
+
+/// What the crates are made of: what rt makes of them, in their folders out/, is no input.
+fn parts(crates: &Path) -> Vec<PathBuf> {
+    let folders = fs::read_dir(crates).unwrap_or_else(|error| fail(format_args!("{}: {error}", crates.display())));
+    folders.filter_map(Result::ok).flat_map(|folder| ["src", "specs", "proofs"].map(|part| folder.path().join(part))).filter(|part| part.is_dir()).collect()
 }
