@@ -14,8 +14,9 @@ use Rattle.ids.proofs.First.{words_below}
 use Rattle.ids.proofs.Records.{length_ids, get_d_ids, record_end}
 use Rattle.ids.proofs.Rising.{below_up, below_down, below_at}
 use Rattle.ids.proofs.Search.{find_gap, find_at}
+use borrow.Author.Rules.{rules}
 use Rattle.ids.proofs.find.Goals as goal
-use Rattle.ids.proofs.find.Goals.{After-u32_be-word, In-loop-lo}
+use Rattle.ids.proofs.find.Goals.{In-loop-lo}
 use Rattle.ids.proofs.find.Invariants.{Bracket}
 
 -- within a turn: the middle, its end, and what is told of it
@@ -60,21 +61,19 @@ upper t b =
 id_is : (t : In-loop-lo) → id32 0 t.args.id.now ≡ t.args.id.now
 id_is t = take_all 32 t.args.id.now (omega arith)
 
-words_under : (c : After-u32_be-word) → c.u32_be-word.result < c.u32_be-first.result → Below (get_or (js c.before) (mid c.before) []) c.args.id.now
-words_under c h =
-    let p = mid c.before * c.args.size in
-    let q : be_at 4 c.args.table.now p < be_at 4 c.args.id.now 0 = omega (arith, h, c.u32_be-word.ensures, c.u32_be-first.ensures) in
-    ap (λ (x : Id). below x c.args.id.now) (mid_id c.before)
-    ∙ ap (below (id32 p c.args.table.now)) (sym (id_is c.before))
-    ∙ words_below c.args.table.now p c.args.id.now 0 (omega (arith, end c.before)) (omega arith) (λ i. (c.shared_slice_known-1.given i).fits) (λ i. (c.shared_slice_known-2-1.given i).fits) q
+words_under : (t : In-loop-lo) → ((i : ℕ) → get_or t.args.table.now i 0 < 256) → ((i : ℕ) → get_or t.args.id.now i 0 < 256) → be_at 4 t.args.table.now (mid t * t.args.size) < be_at 4 t.args.id.now 0 → Below (get_or (js t) (mid t) []) t.args.id.now
+words_under t f g q =
+    let p = mid t * t.args.size in
+    ap (λ (x : Id). below x t.args.id.now) (mid_id t)
+    ∙ ap (below (id32 p t.args.table.now)) (sym (id_is t))
+    ∙ words_below t.args.table.now p t.args.id.now 0 (omega (arith, end t)) (omega arith) f g q
 
-words_over : (c : After-u32_be-word) → c.u32_be-first.result < c.u32_be-word.result → Below c.args.id.now (get_or (js c.before) (mid c.before) [])
-words_over c h =
-    let p = mid c.before * c.args.size in
-    let q : be_at 4 c.args.id.now 0 < be_at 4 c.args.table.now p = omega (arith, h, c.u32_be-word.ensures, c.u32_be-first.ensures) in
-    ap (below c.args.id.now) (mid_id c.before)
-    ∙ ap (λ (x : Id). below x (id32 p c.args.table.now)) (sym (id_is c.before))
-    ∙ words_below c.args.id.now 0 c.args.table.now p (omega arith) (omega (arith, end c.before)) (λ i. (c.shared_slice_known-2-1.given i).fits) (λ i. (c.shared_slice_known-1.given i).fits) q
+words_over : (t : In-loop-lo) → ((i : ℕ) → get_or t.args.table.now i 0 < 256) → ((i : ℕ) → get_or t.args.id.now i 0 < 256) → be_at 4 t.args.id.now 0 < be_at 4 t.args.table.now (mid t * t.args.size) → Below t.args.id.now (get_or (js t) (mid t) [])
+words_over t f g q =
+    let p = mid t * t.args.size in
+    ap (below t.args.id.now) (mid_id t)
+    ∙ ap (λ (x : Id). below x (id32 p t.args.table.now)) (sym (id_is t))
+    ∙ words_below t.args.id.now 0 t.args.table.now p (omega arith) (omega (arith, end t)) g f q
 
 pub loop-lo-init : goal.loop-lo-init
 loop-lo-init c = record {
@@ -97,13 +96,13 @@ pub overflow_add-lo : goal.overflow_add-lo
 overflow_add-lo c = omega (arith, mid< (goal.at.overflow_add-lo c).In-loop-lo)
 
 pub loop-lo-preserved-then-word-first : goal.loop-lo-preserved-then-word-first
-loop-lo-preserved-then-word-first c = lower (goal.at.loop-lo-preserved-then-word-first c).In-loop-lo (words_under (goal.at.loop-lo-preserved-then-word-first c).After-u32_be-word (omega (arith, c.if-word-first.true)))
+loop-lo-preserved-then-word-first c = lower (goal.at.loop-lo-preserved-then-word-first c).In-loop-lo (words_under (goal.at.loop-lo-preserved-then-word-first c).In-loop-lo (λ i. omega (arith, c.type_inv.table i)) (λ i. omega (arith, c.type_inv.id i)) (omega (arith, c.if-word-first.true, c.u32_be-word.ensures, c.u32_be-first.ensures)))
 
 pub loop-lo-preserved-then-first-word : goal.loop-lo-preserved-then-first-word
-loop-lo-preserved-then-first-word c = upper (goal.at.loop-lo-preserved-then-first-word c).In-loop-lo (words_over (goal.at.loop-lo-preserved-then-first-word c).After-u32_be-word (omega (arith, c.if-first-word.true)))
+loop-lo-preserved-then-first-word c = upper (goal.at.loop-lo-preserved-then-first-word c).In-loop-lo (words_over (goal.at.loop-lo-preserved-then-first-word c).In-loop-lo (λ i. omega (arith, c.type_inv.table i)) (λ i. omega (arith, c.type_inv.id i)) (omega (arith, c.if-first-word.true, c.u32_be-word.ensures, c.u32_be-first.ensures)))
 
 pub compare_id-requires : goal.compare_id-requires
-compare_id-requires c = let both = omega (arith, end (goal.at.compare_id-requires c).In-loop-lo) in record { at_in_bounds = both.0; id_len = both.1 }
+compare_id-requires c = record { at_in_bounds = omega (arith, end (goal.at.compare_id-requires c).In-loop-lo); id_len = search rules }
 
 pub overflow_add-lo-in-Less : goal.overflow_add-lo-in-Less
 overflow_add-lo-in-Less c = omega (arith, mid< (goal.at.overflow_add-lo-in-Less c).In-loop-lo)

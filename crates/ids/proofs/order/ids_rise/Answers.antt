@@ -1,24 +1,14 @@
 use mathlib.Core.Path.{◌≡◌, sym, ◌∙◌}
 use mathlib.Core.Bool.{true}
-use mathlib.Core.Logic.{⊎_elim}
 use mathlib.Core.List.{map}
-use Prim.Native.Nat.{◌-◌, ◌<◌}
+use Prim.Native.Nat.{◌<◌}
 use native.Mathlib.Omega.{arith}
-use borrow.Author.Tests.{not-true, not-false}
 use Rattle.rules.specs.Records.{records, id_of}
 use Rattle.ids.proofs.Records.{length_ids, record_end}
 use Rattle.ids.proofs.Rising.{rising_short}
 use Rattle.ids.proofs.Climb.{above, starts, two_ends, quick, goes_on, stops, ends}
 use Rattle.ids.proofs.order.ids_rise.Goals as goal
-use Rattle.ids.proofs.order.ids_rise.Goals.{Joined-next-last}
-
--- after a turn that goes on, the two ids rise: the words said so, or all bytes did
-rise : (c : Joined-next-last) → above c.args.size c.args.table.now c.loop-i.i ≡ true
-rise c =
-    ⊎_elim
-    (λ w. sym w.1.ensures ∙ not-false w.1.result w.2.left)
-    (λ w. quick c.loop-i.invariant (λ j. (c.shared_slice_known-1.given j).fits) c.u32_be-next.ensures c.loop-i-test.true (omega (arith, w.left)))
-    c.if-next-last.branch
+use Rattle.ids.proofs.order.ids_rise.Goals.{then-next-last+else-not-is_below, else-next-last}
 
 pub returns-then-used-eq0 : goal.returns-then-used-eq0
 returns-then-used-eq0 c =
@@ -34,10 +24,17 @@ loop-i-init c = starts c.requires.0 c.requires.1 (omega arith) c.u32_be-last.ens
 
 pub returns-then-not-is_below : goal.returns-then-not-is_below
 returns-then-not-is_below c =
-    sym (stops c.loop-i.invariant c.loop-i-test.true (sym c.is_below.ensures ∙ not-true c.is_below.result c.if-not-is_below.true))
+    sym (stops c.loop-i.invariant c.loop-i-test.true (sym c.is_below.ensures ∙ c.if-not-is_below.true))
 
 pub loop-i-preserved : goal.loop-i-preserved
-loop-i-preserved c = goes_on c.loop-i.invariant c.u32_be-next.ensures c.loop-i-test.true (rise (goal.at.loop-i-preserved c).Joined-next-last)
+loop-i-preserved c =
+    -- the two ids rise: the words said so, or all bytes did
+    let rise : above c.args.size c.args.table.now c.loop-i.i ≡ true =
+    elim c.if-next-last.branch [
+      | then-next-last+else-not-is_below w ↦ sym w.is_below.ensures ∙ w.if-not-is_below.false
+      | else-next-last w ↦ quick c.loop-i.invariant (λ j. omega (arith, c.type_inv.table j)) c.u32_be-next.ensures c.loop-i-test.true (omega (arith, w.if-next-last.false))
+    ] in
+    goes_on c.loop-i.invariant c.u32_be-next.ensures c.loop-i-test.true rise
 
 pub overflow_mul-at : goal.overflow_mul-at
 overflow_mul-at c = omega (arith, two_ends c.loop-i.invariant c.loop-i-test.true)
