@@ -1,13 +1,14 @@
 -- Laws of writing on a page. What is written one after the other is the same as the whole text written once, where there is room for it.
 -- Assumes nothing.
-use mathlib.Core.Path.{◌≡◌, sym, ap, ◌∙◌}
-use mathlib.Core.List.{List, [], ◌∷◌, ◌++◌, append_assoc, append-nil}
+use mathlib.Core.Path.{◌≡◌, refl, sym, ap, ◌∙◌}
+use mathlib.Core.List.{List, [], ◌∷◌, ◌++◌, append_assoc}
 use Prim.Native.Nat.{ℕ, suc, ◌+◌, ◌≤◌, ◌<◌}
 use native.Mathlib.Nat.{add-zero, add-suc, suc-add}
 use native.Mathlib.Omega.{arith}
 use borrow.Author.Tests.{le-leb, lt-leb}
-use lib.ListN.{length, take, drop, length-append, length-drop, drop_of_length-le}
-use lib.Seq.{sets, sets-eq, length-sets, take-length, take_all, drop-drop}
+use lib.ListN.{length, length-append}
+use lib.Seq.{sets, sets-eq, length-sets, drop-drop}
+use borrow.Rule.Slice.PartMut.{put_mid}
 use Rattle.print.specs.Page.{page, write}
 
 pub write_fits : (text bytes : List ℕ) (at : ℕ) → at + length text ≤ length bytes → write text (page bytes at) ≡ page (sets bytes at text) (at + length text)
@@ -18,13 +19,11 @@ pub write_none : (text bytes : List ℕ) (at : ℕ) → length bytes < at + leng
 unfolding write
 write_none text bytes at h = simp (lt-leb _ _ h)
 
--- bytes copied to the front of what follows the cursor are written
-pub copied : (text bytes part : List ℕ) (at n k : ℕ) → at + length text ≤ length bytes → length bytes ≤ at + n → k ≡ length text
-    → part ≡ take (length text) text ++ drop (length text) (take n (drop at bytes)) → page (take at bytes ++ (part ++ drop n (drop at bytes))) (at + k) ≡ write text (page bytes at)
-copied text bytes part at n k h m e i =
-    let l : length (drop at bytes) ≤ n = omega (arith, length-drop at bytes) in
-    rw (i, e, take-length text, take_all n (drop at bytes) l, drop_of_length-le (drop at bytes) {i = n} l, append-nil, drop-drop (length text) at bytes, ← append_assoc, ← sets-eq text bytes at h)
-    (sym (write_fits text bytes at h))
+-- text copied over the part behind the cursor is written
+pub copied : (text bytes part : List ℕ) (at k : ℕ) → at + length text ≤ length bytes → k ≡ length text → part ≡ text → page (put_mid at k bytes part) (at + length text) ≡ write text (page bytes at)
+copied text bytes part at k h e i =
+    let j : put_mid at k bytes part ≡ sets bytes at text = rw (i, e, sets-eq text bytes at h, drop-drop, append_assoc) refl in
+    rw j (sym (write_fits text bytes at h))
 
 -- ---- texts one after the other
 
