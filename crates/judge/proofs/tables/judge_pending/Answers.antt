@@ -11,9 +11,8 @@ use Rattle.rules.specs.Memory.{sound_pending, pending_records}
 use Rattle.rules.specs.Board.{Pending, board_of, pending_most, pending_of, in_range}
 use Rattle.rules.proofs.Boards.{read_is}
 use Rattle.judge.proofs.Records.{roomy, table_is, roomy_told}
-use borrow.Author.Rules.{rules}
-use Rattle.judge.proofs.tables.judge_pending.Statement.{statement}
-use Rattle.judge.proofs.tables.judge_pending.Tie as tie
+use Rattle.judge.proofs.tables.judge_pending.Goals as goal
+use Rattle.judge.proofs.tables.judge_pending.Goals.{Then-room_and_zeros}
 
 -- the rules' test, over the size that the code has asked for
 sound_is : (on : Horizon) (size used : ℕ) (xs : List ℕ) → size ≡ (board_of on).table.size
@@ -23,26 +22,16 @@ sound_is on size used xs e =
     ap₂ (λ (f : List ℕ → Pending) (n : ℕ). sound_table n pending_most used xs && every in_range (map f (records n used xs))) (read_is on) (sym e)
     ∙ rw (table_is size pending_most used xs)
 
-first : (t : tie.Then1) → let a = t.before.before.before.before.args in roomy t.before.before.record-size.result pending_most a.used a.table.now ≡ true
-first t = sym t.before.room-and-zeros.ensures ∙ t.if1.true
+first : (t : Then-room_and_zeros) → roomy t.record_size-size.result pending_most t.args.used t.args.table.now ≡ true
+first t = sym t.room_and_zeros.ensures ∙ t.if-room_and_zeros.true
 
-returns : tie.Need-returns
+pub returns-then-room_and_zeros : goal.returns-then-room_and_zeros
+returns-then-room_and_zeros c =
+    sym (sound_is c.args.on _ c.args.used c.args.table.now c.record_size-size.ensures.value ∙ rw (first (goal.at.returns-then-room_and_zeros c).Then-room_and_zeros, c.records_sound.ensures))
+
+pub returns : goal.returns
 returns c =
-    let t = c.before in
-    let a = t.before.before.before.before.args in
-    sym (sound_is a.on _ a.used a.table.now t.before.before.record-size.ensures.0 ∙ rw (first t, c.records-sound.ensures))
+    sym (sound_is c.args.on _ c.args.used c.args.table.now c.record_size-size.ensures.value ∙ rw (sym c.room_and_zeros.ensures ∙ c.if-room_and_zeros.false))
 
-returns-2 : tie.Need-returns-2
-returns-2 c =
-    let a = c.before.before.before.before.args in
-    sym (sound_is a.on _ a.used a.table.now c.before.before.record-size.ensures.0 ∙ rw (sym c.before.room-and-zeros.ensures ∙ c.if1.false))
-
-pub judge_pending_spec : {M : Type 1} → statement M
-judge_pending_spec =
-    tie.close
-    (tie.spec
-    (λ c κs. search rules)
-    (λ c κs. search rules)
-    (λ c κs. let a = c.before.before.before.before.args in (c.before.before.record-size.ensures.1, roomy_told _ pending_most a.used a.table.now (first c)))
-    returns
-    returns-2)
+pub records_sound-requires : goal.records_sound-requires
+records_sound-requires c = (c.record_size-size.ensures.lower_bound, roomy_told _ pending_most c.args.used c.args.table.now (first (goal.at.records_sound-requires c).Then-room_and_zeros))
