@@ -4,5 +4,7 @@
 pub mod Reading
 -- pairs of digits
 pub mod Hexes
+-- words up to a space
+pub mod Spaces
 -- the sum, byte by byte
 pub mod Adler

@@ -18,6 +18,9 @@ pub fn word_at(line: &[u8], at: usize) -> Word
     if end < at {
         return Word { from: end, to: end };
     }
-    let to = bytes::scan::find(line, at, end, 32);
+    let mut to = at;
+    while to < end && line[to] != 32 {
+        to += 1;
+    }
     Word { from: at, to }
 }
