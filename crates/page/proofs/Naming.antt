@@ -1,22 +1,22 @@
 -- Words compared, and the rows of the page from the last to the first.
 -- Assumes nothing.
-use mathlib.Core.Path.{◌≡◌, refl, sym, ◌∙◌}
-use mathlib.Core.Bool.{Bool, true, false, cond}
+use mathlib.Core.Path.{◌≡◌, refl, ap, ◌∙◌}
+use mathlib.Core.Bool.{Bool, ◌&&◌, cond}
 use mathlib.Core.List.{List, [], ◌∷◌}
 use Prim.Native.Nat.{ℕ}
 use Rattle.rules.specs.Ids.{same}
-use Rattle.rules.proofs.Ids.{same_eq, same_refl}
+use lib.Dec.{eqb}
+use lib.Pointwise.{pointwise}
 use Rattle.page.specs.Page.{Row, found}
 use Rattle.page.specs.declared.page.Operation.{Operation}
 
--- a test that is true just where two words are one
-pub tells : (a b : List ℕ) (r : Bool) → (r ≡ true → a ≡ b) → (a ≡ b → r ≡ true) → r ≡ same a b
-tells a b true there back = rw (there refl) (sym (same_refl b))
-tells a b false there back = go (same a b) refl
-  where
-    go : (t : Bool) → same a b ≡ t → false ≡ same a b
-    go true e = back (same_eq a b e) ∙ sym e
-    go false e = sym e
+-- what `==` says of two words
+pub equal_same : (a b : List ℕ) → pointwise eqb a b ≡ same a b
+unfolding same
+equal_same [] [] = refl
+equal_same [] (y ∷ b) = refl
+equal_same (x ∷ a) [] = refl
+equal_same (x ∷ a) (y ∷ b) = ap (λ (t : Bool). eqb x y && t) (equal_same a b)
 
 module _ (w : List ℕ) (other : Operation) where
   -- no row yet

@@ -7,7 +7,6 @@ use crate::limits::{
     MOST_COUNTS, MOST_HISTORY, MOST_PENDING, MOST_RECENT, MOST_SHORT, MOST_WIDE_PENDING,
     MOST_WIDE_RECENT,
 };
-use check::same;
 use kinds::{Horizon, ID_SIZE};
 
 // An operation, by its first word.
@@ -69,7 +68,7 @@ pub struct Fields(pub Field, pub Field, pub Field, pub Field);
 pub fn is(word: &[u8], text: &[u8]) -> bool
     ensures { result ≡ same word.now text.now }
 {
-    same(word, text)
+    word == text
 }
 
 // An operation where the word is its name, and else another.
