@@ -9,6 +9,7 @@ use kinds::{Height, Last, State};
 const HEIGHTS: u64 = 4294967296;
 
 // Whether the two words are a last height.
+#[tactic(auto, unfolding(boundary::specs::Words::holds_last))]
 fn holds_last(flag: u64, height: u64) -> bool
     ensures { result ≡ holds_last flag height }
 {
@@ -22,6 +23,7 @@ fn holds_last(flag: u64, height: u64) -> bool
 }
 
 // Whether the words hold a state.
+#[tactic(auto, unfolding(boundary::specs::Words::holds_state))]
 pub fn holds_state(words: &[u64]) -> bool
     ensures { result ≡ holds_state words.now }
 {
@@ -34,6 +36,7 @@ pub fn holds_state(words: &[u64]) -> bool
 }
 
 // The last height that the two words hold.
+#[tactic(auto, unfolding(boundary::specs::Words::last_in))]
 fn last_in(flag: u64, height: u64) -> Last
     requires { height < 2 ^ 32 }
     ensures { result ≡ last_in flag height }
@@ -45,6 +48,7 @@ fn last_in(flag: u64, height: u64) -> Last
 }
 
 // The state that words hold.
+#[tactic(auto, using(boundary::proofs::Words::four, boundary::proofs::Words::low), unfolding(boundary::specs::Words::state_in))]
 pub fn state_in(words: &[u64]) -> State
     requires { holds_state words.now ≡ true }
     ensures { result ≡ state_in words.now }
@@ -82,6 +86,7 @@ fn height_of(last: Last) -> u64
 }
 
 // Puts the state into the first four words.
+#[tactic(auto, unfolding(boundary::specs::Words::put_state))]
 pub(crate) fn put_state(words: &mut [u64], s: State)
     requires { 4 ≤ length words.old }
     ensures { words.new ≡ put_state s words.old }
@@ -94,6 +99,7 @@ pub(crate) fn put_state(words: &mut [u64], s: State)
 }
 
 // Puts the state into the first four words where the number is that of Done, and hands the number on.
+#[tactic(auto, unfolding(boundary::specs::Words::put_if_done))]
 pub(crate) fn put_if_done(words: &mut [u64], number: u32, s: State) -> u32
     requires { 4 ≤ length words.old }
     ensures { (result ≡ number) × (words.new ≡ put_if_done result s words.old) }

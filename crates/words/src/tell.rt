@@ -54,6 +54,7 @@ pub fn tell_connected(words: &mut [u64], connected: Connected) -> u32
 }
 
 // The number of an estimate. It carries the rate, or 0 where there is none.
+#[tactic(auto, unfolding(boundary::specs::Calls::rate_carried, boundary::specs::Calls::carry))]
 pub fn tell_estimated(carried: &mut [u64], estimated: Estimated) -> u32
     requires { 1 ≤ length carried.old }
     ensures { (result ≡ (estimate_answer estimated).number) × (carried.new ≡ carry (rate_carried (estimate_answer estimated)) carried.old) }
@@ -73,6 +74,7 @@ pub fn tell_estimated(carried: &mut [u64], estimated: Estimated) -> u32
 }
 
 // The number of a write. It carries how many bytes were written, or are needed.
+#[tactic(auto, unfolding(boundary::specs::Calls::length_carried, boundary::specs::Calls::carry))]
 pub fn tell_written(carried: &mut [u64], written: Written) -> u32
     requires { 1 ≤ length carried.old }
     ensures { (result ≡ (write_answer written.answer).number) × (carried.new ≡ carry (length_carried (write_answer written.answer) written.len) carried.old) }
@@ -94,6 +96,7 @@ pub fn tell_written(carried: &mut [u64], written: Written) -> u32
 }
 
 // Puts the version that a reading does not know into the first word.
+#[tactic(auto, unfolding(boundary::specs::Calls::carry))]
 fn carry_version(carried: &mut [u64], answer: ReadAnswer)
     requires { 1 ≤ length carried.old }
     ensures { carried.new ≡ carry (read_answer answer).carries carried.old }
