@@ -6,12 +6,11 @@ use mathlib.Core.Path.{◌≡◌, refl}
 use mathlib.Core.Bool.{true}
 use mathlib.Core.List.{List, [], ◌∷◌, ◌++◌, map}
 use lib.ListN.{replicate}
-use Rattle.bytes.specs.Bytes.{index_of}
 use Rattle.kinds.specs.declared.Horizon.{Horizon}
 use Rattle.rules.specs.Ids.{same}
 use Rattle.rules.specs.Lists.{every}
 use Rattle.print.specs.Page.{Page, page, write}
-use Rattle.script.specs.Words.{word_from}
+use Rattle.script.specs.Words.{index_of, word_from}
 use Rattle.script.specs.Digits.{digit, value_after, number_after, number_of}
 use Rattle.script.specs.Hex.{is_hex, hex_bytes, hex_into, is_id, id_bytes}
 use Rattle.page.specs.Page.{found, operation_of, allowed}

@@ -6,11 +6,10 @@ use Prim.Native.String.{String, [] as end, ◌∷◌ as ◌then◌}
 use mathlib.Core.Path.{◌≡◌, refl}
 use mathlib.Core.Bool.{Bool, true, false}
 use mathlib.Core.List.{List, [], ◌∷◌, map}
-use Rattle.bytes.specs.Bytes.{index_of}
 use Rattle.kinds.specs.declared.Horizon.{Horizon}
 use Rattle.rules.specs.Ids.{same}
 use Rattle.rules.specs.Lists.{every}
-use Rattle.script.specs.Words.{word_from}
+use Rattle.script.specs.Words.{index_of, word_from}
 use Rattle.script.specs.Digits.{digit, value_after, number_after, number_of}
 use Rattle.script.specs.Hex.{is_hex, is_id, pattern_of}
 use Rattle.page.specs.Page.{found, operation_of, allowed}

@@ -6,8 +6,6 @@ use mathlib.Core.List.{List, [], ◌∷◌}
 use Prim.Native.Nat.{ℕ, ◌+◌}
 use native.Mathlib.Nat.{suc-ne-zero}
 use borrow.Author.Tests.{eq-eqb, ne_eqb}
-use types.Run.{OneOf, miss}
-use denote.Enum.Declared.{tag_of}
 use lib.Dec.{eqb, ltb}
 use lib.ListN.{length, get_or}
 use Rattle.kinds.specs.declared.Horizon.{Horizon}
@@ -20,34 +18,29 @@ use Rattle.page.specs.declared.page.Operation.{Operation}
 use Rattle.page.specs.declared.page.Field.{Field}
 use Rattle.page.specs.declared.page.Fields.{Fields}
 use Rattle.lines.specs.declared.lines.Taken.{Taken}
-use Rattle.page.specs.contracts.page.Field as field
 
 -- ---- one field
 
--- the fields but for none and for ids, by their places in the enum
-abbrev words : List ℕ
-words = 1 ∷ 2 ∷ 3 ∷ 4 ∷ 5 ∷ 6 ∷ 7 ∷ 8 ∷ []
-
 module _ (line : List ℕ) (t : Taken) where
-  -- each of them is one word
-  worded : (f : Field) → OneOf words (tag_of field.the_type f) → take_field line t f ≡ take_word line t f
+  -- each field but for none and for ids is one word
+  worded : (f : Field) → (f ≡ Field.Nothing → ⊥) → (f ≡ Field.Ids → ⊥) → take_field line t f ≡ take_word line t f
   unfolding take_field
-  worded Field.Nothing h = absurd (miss words 0 tt h)
-  worded (Field.Number most) h = refl
-  worded Field.Last h = refl
-  worded Field.Pattern h = refl
-  worded Field.Table h = refl
-  worded Field.Kind h = refl
-  worded Field.Board h = refl
-  worded (Field.Bytes most) h = refl
-  worded Field.Any h = refl
-  worded Field.Ids h = absurd (miss words 9 tt h)
+  worded Field.Nothing h k = absurd (h refl)
+  worded (Field.Number most) h k = refl
+  worded Field.Last h k = refl
+  worded Field.Pattern h k = refl
+  worded Field.Table h k = refl
+  worded Field.Kind h k = refl
+  worded Field.Board h k = refl
+  worded (Field.Bytes most) h k = refl
+  worded Field.Any h k = refl
+  worded Field.Ids h k = absurd (k refl)
 
   -- what a word says is what is taken for its field
-  pub by_word : (f : Field) (w : Word) (n : Number) → OneOf words (tag_of field.the_type f) → w ≡ word_from line t.at → n ≡ value_of f w.from (text_of line w)
+  pub by_word : (f : Field) (w : Word) (n : Number) → (f ≡ Field.Nothing → ⊥) → (f ≡ Field.Ids → ⊥) → w ≡ word_from line t.at → n ≡ value_of f w.from (text_of line w)
       → behind t w.to n ≡ take_field line t f
   unfolding take_word
-  by_word f w n h e v = ap (behind t w.to) v ∙ ap (λ (x : Word). behind t x.to (value_of f x.from (text_of line x))) e ∙ sym (worded f h)
+  by_word f w n h k e v = ap (behind t w.to) v ∙ ap (λ (x : Word). behind t x.to (value_of f x.from (text_of line x))) e ∙ sym (worded f h k)
 
 -- ---- four fields
 
