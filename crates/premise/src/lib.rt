@@ -17,6 +17,7 @@ pub enum Chain {
 }
 
 // A sentence around two heights.
+#[tactic(auto, unfolding(print::specs::Page::writes, crate::specs::Premise::between))]
 fn put_between(
     out: &mut [u8],
     at: usize,
@@ -37,6 +38,7 @@ fn put_between(
 }
 
 // What is said of a file whose last height is h, beside a chain of height n.
+#[tactic(auto, unfolding(crate::specs::Premise::beside, crate::specs::Premise::ahead, crate::specs::Premise::behind, crate::specs::Premise::level))]
 fn put_beside(out: &mut [u8], at: usize, h: u32, n: u32) -> usize
     ensures { page out.new result ≡ writes (beside h n) (page out.old at) }
 {
@@ -74,6 +76,7 @@ fn put_beside(out: &mut [u8], at: usize, h: u32, n: u32) -> usize
 }
 
 // What is said of a file with that last height; nothing where the chain's height is not told.
+#[tactic(auto, unfolding(crate::specs::Premise::premise, crate::specs::Premise::no_last, print::specs::Page::writes))]
 pub fn put_premise(out: &mut [u8], at: usize, chain: Chain, last: Last) -> usize
     ensures { page out.new result ≡ writes (premise chain last) (page out.old at) }
 {
