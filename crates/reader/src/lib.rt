@@ -1,5 +1,5 @@
 // The Reader of the file's bytes, and what is taken through it. It is a thin record that holds what is left of them; its step takes the record apart and
-// calls `codec::numbers` on parts of the lent bytes. A struct that holds a reference is walked by hand: what is over it takes plain parameters.
+// calls `codec::numbers` on parts of the lent bytes. What is over it takes plain parameters.
 #![tactic(auto)]
 
 ghost use Rattle.std.specs.Prelude.{◌≡◌, ◌+◌, ◌≤◌, length, take, drop};
@@ -21,7 +21,7 @@ fn new<'a>(bytes: &'a [u8]) -> Reader<'a>
 impl<'a> Reader<'a> {
     // The take step: the first n bytes are handed back, the head of what was lent itself and never a copy, and the reader goes past them. Where there are fewer, all of them, and nothing is left.
     pub fn take(&mut self, n: usize) -> &'a [u8]
-        ensures { (result.ref_ptr ≡ self.old.bytes.ptr) × (result.now ≡ take n self.old.bytes.now) × (self.new.bytes.now ≡ drop n self.old.bytes.now) }
+        ensures { (result.ref_ptr ≡ self.old.bytes.ref_ptr) × (result.now ≡ take n self.old.bytes.now) × (self.new.bytes.now ≡ drop n self.old.bytes.now) }
     {
         let b = self.bytes;
         let t = codec::numbers::rest(b, n);
