@@ -1,4 +1,4 @@
--- The listed ids of a block, all at once: what `confirm-all` does one by one, said of whole tables. Assumes nothing.
+-- The listed ids of a block, all at once: what `confirm_all` does one by one, said of whole tables. Assumes nothing.
 use Rattle.std.specs.Prelude.{ℕ, ◌*◌, Bool, not, cond, List, [], ◌∷◌, map, leb, ltb}
 use Rattle.rules.specs.Lists.{any, keep, insert}
 use Rattle.rules.specs.Ids.{Id, same, below}
