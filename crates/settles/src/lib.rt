@@ -7,8 +7,7 @@ ghost use Rattle.rules.specs.Counts.{places_of_counts, gain};
 ghost use Rattle.rules.specs.Records.{records, sound_table};
 ghost use Rattle.rules.specs.Board.{board_of, pending_most, confirmed_size, confirmed_most};
 ghost use Rattle.rules.specs.Estimator.{wait};
-ghost use Rattle.rules.specs.Memory.{view, confirmed_records, lay_confirmed};
-ghost use Rattle.rules.specs.Slices.{given, before, after};
+ghost use Rattle.rules.specs.Memory.{lent, view, confirmed_records, lay_confirmed};
 ghost use Rattle.batch.specs.Batch.{renewed};
 ghost use Rattle.ready.specs.Ready.{Ready};
 ghost use Rattle.settles.specs.Settled.{looked, Settled, AllSettled};
@@ -101,10 +100,10 @@ pub fn settle_all(
     h: Height,
     on: Horizon,
 )
-    requires ready { Ready (board_of on) state (given confirmed resolved pending recent) }
+    requires ready { Ready (board_of on) state (lent confirmed.old resolved.old pending.now recent.old) }
     requires pending_in_bounds { state.pending ≤ length marks.old }
-    ensures { AllSettled (board_of on) h.0 (view (board_of on) state (before confirmed resolved pending recent)) (before confirmed resolved pending recent) marks.old
-        (after confirmed resolved pending recent) marks.new }
+    ensures { AllSettled (board_of on) h.0 (view (board_of on) state (lent confirmed.old resolved.old pending.now recent.old)) (lent confirmed.old resolved.old pending.now recent.old) marks.old
+        (lent confirmed.new resolved.new pending.now recent.new) marks.new }
 {
     let used = state.pending;
     let kept = state.recent;

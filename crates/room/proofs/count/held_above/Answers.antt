@@ -1,0 +1,24 @@
+-- `room::count::held_above` meets its contract. Assumes nothing.
+use mathlib.Core.Path.{refl, sym, ◌∙◌}
+use native.Mathlib.Omega.{arith}
+use Rattle.rules.specs.Board.{confirmed_size, confirmed_most}
+use Rattle.table.proofs.Sound.{sound_told}
+use Rattle.by_id.proofs.ById.{searchable, in_table}
+use Rattle.room.proofs.Adding.{held_there, held_nowhere}
+use Rattle.room.proofs.count.held_above.Goals as goal
+
+pub find-requires : goal.find-requires
+find-requires c = let both = searchable confirmed_size confirmed_size confirmed_most _ _ c.args.id.now refl (omega arith) c.requires.recent_value c.requires.id_len in record { le_size = both.0; table_value = both.1.0; id_len = both.1.1 }
+
+pub height_at-h-requires : goal.height_at-h-requires
+height_at-h-requires c =
+    in_table confirmed_size confirmed_size confirmed_most _ _ _ _ refl c.requires.recent_value (sym c.find.ensures ∙ c.in-At.is)
+
+pub returns-in-At : goal.returns-in-At
+returns-in-At c =
+    let f = sym c.find.ensures ∙ c.in-At.is in
+    held_there c.args.least.0 c.args.id.now c.args.kept _ c.args.recent.now (sound_told _ _ _ _ c.requires.recent_value).rise f _ c.height_at-h.ensures
+
+pub returns-in-Gap : goal.returns-in-Gap
+returns-in-Gap c =
+    held_nowhere c.args.least.0 c.args.id.now c.args.kept _ c.args.recent.now (sound_told _ _ _ _ c.requires.recent_value).rise (sym c.find.ensures ∙ c.in-Gap.is)
