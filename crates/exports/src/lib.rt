@@ -4,6 +4,7 @@
 #![tactic(auto)]
 
 ghost use Rattle.std.specs.Prelude.{◌≡◌, []};
+ghost use Rattle.rules.specs.Memory.{lent};
 ghost use Rattle.rules.specs.Slices.{before, after};
 ghost use Rattle.boundary.specs.Calls.{izr_bucket_index_for_rate, seen, izr_new, izr_tx_entered, izr_tx_left, izr_block_connected, izr_estimate, izr_to_history_bytes, izr_from_history_bytes};
 
@@ -140,7 +141,7 @@ pub fn to_history_bytes(
     on: Horizon,
 ) -> u32
     ensures { seen result state.now carried.new out.new
-        ≡ izr_to_history_bytes on state.now (before confirmed resolved pending recent) out.old carried.old }
+        ≡ izr_to_history_bytes on state.now (lent confirmed.now resolved.now pending.now recent.now) out.old carried.old }
 {
     if !state_and_word(state, carried) {
         return 1;

@@ -2,8 +2,7 @@
 ghost use Rattle.std.specs.Prelude.{◌≡◌, true, ◌≤◌, length};
 ghost use Rattle.std.proofs.lemmas.List.Edits.{sets};
 ghost use Rattle.kinds.specs.Answers.{write_answer};
-ghost use Rattle.rules.specs.Memory.{sound, view};
-ghost use Rattle.rules.specs.Slices.{given, before};
+ghost use Rattle.rules.specs.Memory.{sound, view, lent};
 ghost use Rattle.rules.specs.Calls.{outcome};
 ghost use Rattle.format.specs.File.{version_told, history_of, history_length};
 ghost use Rattle.format.specs.Calls.{output, write_call};
@@ -38,9 +37,9 @@ fn encode(
     version: FileVersion,
     on: Horizon,
 )
-    requires recent_value { sound (board_of on) s (given confirmed resolved pending recent) ≡ true }
+    requires recent_value { sound (board_of on) s (lent confirmed.now resolved.now pending.now recent.now) ≡ true }
     requires recent_in_bounds { history_length (version_told version) s.last s.pending s.recent ≤ length out.old }
-    ensures { out.new ≡ sets out.old 0 (history_of (version_told version) (view (board_of on) s (before confirmed resolved pending recent))) }
+    ensures { out.new ≡ sets out.old 0 (history_of (version_told version) (view (board_of on) s (lent confirmed.now resolved.now pending.now recent.now))) }
 {
     let last = s.last;
     let used = s.pending;
@@ -66,9 +65,9 @@ fn write_sound(
     version: FileVersion,
     on: Horizon,
 ) -> Written
-    requires { sound (board_of on) s (given confirmed resolved pending recent) ≡ true }
+    requires { sound (board_of on) s (lent confirmed.now resolved.now pending.now recent.now) ≡ true }
     ensures { outcome (write_answer result.answer) result.state (output result.len out.new)
-        ≡ write_call (version_told version) (board_of on) s (before confirmed resolved pending recent) out.old }
+        ≡ write_call (version_told version) (board_of on) s (lent confirmed.now resolved.now pending.now recent.now) out.old }
 {
     let last = s.last;
     let used = s.pending;
@@ -101,7 +100,7 @@ pub fn to_history_bytes(
     on: Horizon,
 ) -> Written
     ensures { outcome (write_answer result.answer) result.state (output result.len out.new)
-        ≡ write_call (version_told version) (board_of on) s (before confirmed resolved pending recent) out.old }
+        ≡ write_call (version_told version) (board_of on) s (lent confirmed.now resolved.now pending.now recent.now) out.old }
 {
     if !judge_memory(s, confirmed, resolved, pending, recent, on) {
         return Written {

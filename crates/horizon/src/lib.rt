@@ -6,6 +6,7 @@
 ghost use Rattle.std.specs.Prelude.{◌≡◌};
 ghost use Rattle.kinds.specs.Answers.{start_answer, enter_answer, leave_answer, block_answer, estimate_answer, write_answer, read_answer};
 ghost use Rattle.rules.specs.Board.{wide};
+ghost use Rattle.rules.specs.Memory.{lent};
 ghost use Rattle.rules.specs.Slices.{before, after};
 ghost use Rattle.rules.specs.Calls.{outcome, start_call, enter_call, leave_call, block_call, estimate_call};
 ghost use Rattle.format.specs.File.{version_3};
@@ -91,7 +92,7 @@ pub fn to_history_bytes(
     out: &mut [u8],
 ) -> Written
     ensures { outcome (write_answer result.answer) result.state (output result.len out.new)
-        ≡ write_call version_3 wide state (before confirmed resolved pending recent) out.old }
+        ≡ write_call version_3 wide state (lent confirmed.now resolved.now pending.now recent.now) out.old }
 {
     history::to_history_bytes(
         state,

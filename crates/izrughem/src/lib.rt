@@ -5,6 +5,7 @@
 
 ghost use Rattle.std.specs.Prelude.{◌≡◌, []};
 ghost use Rattle.kinds.specs.declared.Horizon.{Horizon};
+ghost use Rattle.rules.specs.Memory.{lent};
 ghost use Rattle.rules.specs.Slices.{before, after};
 ghost use Rattle.boundary.specs.Calls.{abi_version, izr_bucket_index_for_rate, seen, izr_new, izr_tx_entered, izr_tx_left, izr_block_connected, izr_estimate, izr_to_history_bytes, izr_from_history_bytes};
 
@@ -119,7 +120,7 @@ pub extern "C" fn izr_to_history_bytes(
     carried: &mut [u64],
 ) -> u32
     ensures { seen result state.now carried.new out.new
-        ≡ izr_to_history_bytes Horizon.Base state.now (before confirmed resolved pending recent) out.old carried.old }
+        ≡ izr_to_history_bytes Horizon.Base state.now (lent confirmed.now resolved.now pending.now recent.now) out.old carried.old }
 {
     exports::to_history_bytes(
         state,
@@ -250,7 +251,7 @@ pub extern "C" fn izr_wide_to_history_bytes(
     carried: &mut [u64],
 ) -> u32
     ensures { seen result state.now carried.new out.new
-        ≡ izr_to_history_bytes Horizon.Wide state.now (before confirmed resolved pending recent) out.old carried.old }
+        ≡ izr_to_history_bytes Horizon.Wide state.now (lent confirmed.now resolved.now pending.now recent.now) out.old carried.old }
 {
     exports::to_history_bytes(
         state,

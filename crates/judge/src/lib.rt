@@ -6,8 +6,7 @@ mod tables;
 
 ghost use Rattle.std.specs.Prelude.{◌≡◌};
 ghost use Rattle.rules.specs.Board.{board_of};
-ghost use Rattle.rules.specs.Memory.{sound};
-ghost use Rattle.rules.specs.Slices.{before};
+ghost use Rattle.rules.specs.Memory.{sound, lent};
 
 pub use counts::{sound_count, sound_counts};
 use kinds::{Horizon, State};
@@ -23,7 +22,7 @@ pub fn judge_memory(
     recent: &[u8],
     on: Horizon,
 ) -> bool
-    ensures { result ≡ sound (board_of on) state (before confirmed resolved pending recent) }
+    ensures { result ≡ sound (board_of on) state (lent confirmed.now resolved.now pending.now recent.now) }
 {
     let used = state.pending;
     let kept = state.recent;

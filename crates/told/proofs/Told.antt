@@ -8,7 +8,7 @@ use lib.Ieee.{Float}
 use Rattle.kinds.specs.declared.Horizon.{Horizon}
 use Rattle.kinds.specs.Answers.{start_answer, enter_answer, leave_answer, block_answer, estimate_answer, write_answer, read_answer}
 use Rattle.rules.specs.Board.{board_of}
-use Rattle.rules.specs.Memory.{Lent}
+use Rattle.rules.specs.Memory.{Lent, lent}
 use Rattle.rules.specs.Slices.{given}
 use Rattle.rules.specs.Calls.{outcome, start_call, enter_call, leave_call, block_call, estimate_call}
 use Rattle.format.specs.File.{version_of}
@@ -62,7 +62,7 @@ estimate_said Horizon.Base κs s c d g r e l = l
 estimate_said Horizon.Wide κs s c d g r e l = l
 
 write_said : (on : Horizon) (κs : Lfts 5) (s c d x t out : _) (r : _) (e : _) → page_of on base_write.Learnt wide_write.Learnt κs (s, (c, (d, (x, (t, (out, tt)))))) r e
-    → outcome (write_answer r.answer) r.state (output r.len e.1.1.1.1.1.0.now) ≡ write_call (version_of on) (board_of on) s (given c d x t) out.now
+    → outcome (write_answer r.answer) r.state (output r.len e.1.1.1.1.1.0.now) ≡ write_call (version_of on) (board_of on) s (lent c.now d.now x.now t.now) out.now
 write_said Horizon.Base κs s c d x t out r e l = l
 write_said Horizon.Wide κs s c d x t out r e l = l
 

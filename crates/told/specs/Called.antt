@@ -6,7 +6,7 @@ use contract.Lifetimes.{Lfts}
 use Rattle.kinds.specs.declared.Horizon.{Horizon}
 use Rattle.kinds.specs.Answers.{start_answer, enter_answer, leave_answer, block_answer, read_answer}
 use Rattle.rules.specs.Board.{board_of}
-use Rattle.rules.specs.Memory.{Lent}
+use Rattle.rules.specs.Memory.{Lent, lent}
 use Rattle.rules.specs.Slices.{given}
 use Rattle.rules.specs.Calls.{outcome}
 use Rattle.meaning.specs.Runs.{Rising, enter, leave, connect, with_table, noted}
@@ -55,7 +55,7 @@ pub data Called (on : Horizon) (m : Life) : List Ask → Life → Type 0 where
       → c.now ≡ y.held.memory.confirmed → d.now ≡ y.held.memory.resolved
       → page_of on base_estimate.Learnt wide_estimate.Learnt κs (y.held.state, (c, (d, (target, tt)))) r e
       → Called on m (qs ++ estimate target ∷ []) y
-  wrote : {qs : List Ask} {y : Life} → Called on m qs y → (κs : Lfts 5) (c d x t out : _) (r : _) (e : _) → given c d x t ≡ y.held.memory
+  wrote : {qs : List Ask} {y : Life} → Called on m qs y → (κs : Lfts 5) (c d x t out : _) (r : _) (e : _) → lent c.now d.now x.now t.now ≡ y.held.memory
       → page_of on base_write.Learnt wide_write.Learnt κs (y.held.state, (c, (d, (x, (t, (out, tt)))))) r e
       → Called on m (qs ++ write out.now ∷ []) (goes_on y r.state y.held.memory)
   was_read : {qs : List Ask} {y : Life} → Called on m qs y → (κs : Lfts 5) (file c d x t : _) (r : _) (e : _) → given c d x t ≡ y.held.memory

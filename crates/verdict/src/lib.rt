@@ -4,7 +4,7 @@
 ghost use Rattle.std.specs.Prelude.{◌≡◌};
 ghost use Rattle.kinds.specs.Answers.{block_answer};
 ghost use Rattle.rules.specs.Board.{board_of};
-ghost use Rattle.rules.specs.Slices.{before};
+ghost use Rattle.rules.specs.Memory.{lent};
 ghost use Rattle.rules.specs.Calls.{gap, block_call};
 
 use kinds::{
@@ -39,7 +39,7 @@ pub fn judge_block(
     height: Height,
     on: Horizon,
 ) -> BlockAnswer
-    ensures { block_answer result ≡ (block_call (board_of on) state (before confirmed resolved pending recent) ids.now height).answer }
+    ensures { block_answer result ≡ (block_call (board_of on) state (lent confirmed.now resolved.now pending.now recent.now) ids.now height).answer }
 {
     if !judge::judge_memory(state, confirmed, resolved, pending, recent, on) {
         return BlockAnswer::Damaged;
