@@ -12,7 +12,7 @@ use Rattle.rules.specs.Lists.{bit, count, any, keep, insert}
 use Rattle.rules.specs.Ids.{Id, same, below, rising, dropped, placed}
 use Rattle.rules.specs.Records.{id_of}
 use Rattle.rules.proofs.All.{All, none, more}
-use Rattle.rules.proofs.Ids.{Up, step, same_eq, same_refl, same_sym, below_apart, below_asym, up_of, dropped_absent}
+use Rattle.rules.proofs.Ids.{Up, end, step, same_eq, same_refl, same_sym, below_apart, below_asym, up_of, dropped_absent}
 use Rattle.format.specs.File.{settled}
 use Rattle.format.proofs.Back.{all_imply}
 use Rattle.sort.specs.Order.{Shuffled}
@@ -25,6 +25,7 @@ data Stands {A : Type 0} (r : A) : List A → Type 0 where
   later : {q : A} {rs : List A} → Stands r rs → Stands r (q ∷ rs)
 
 at_stand : {A : Type 0} {P : A → Type 0} {r : A} {rs : List A} → All P rs → Stands r rs → P r
+at_stand {A = A} {P = P} {r = r} none x3 = elim x3 [ ]
 at_stand (more h hs) here = h
 at_stand (more h hs) (later s) = at_stand hs s
 
@@ -42,6 +43,7 @@ module _ {A : Type 0} (id : A → Id) where
 
   placed_own : {r : A} {qs : List A} → Up id qs → Stands r qs → placed id r qs ≡ qs
   unfolding placed dropped keep insert
+  placed_own {r = r} end x3 = elim x3 [ ]
   placed_own {r} (step {rs} a u) here =
       let d : dropped id (id r) (r ∷ rs) ≡ rs = rw (same_refl (id r)) (dropped_absent id (id r) rs (over_absent (id r) a)) in
       ap (insert (λ x y. below (id x) (id y)) r) d ∙ inserts_first r a
@@ -49,7 +51,7 @@ module _ {A : Type 0} (id : A → Id) where
       let b : below (id q) (id r) ≡ true = at_stand a s in
       rw (below_apart (id q) (id r) b, below_asym (id q) (id r) b) (ap (λ (l : List A). q ∷ l) (placed_own u s))
 
-  settled_own : {rs qs : List A} → Up id qs → All (λ r. Stands r qs) rs → settled id qs rs ≡ qs
+  settled_own : {qs rs : List A} → Up id qs → All (λ r. Stands r qs) rs → settled id qs rs ≡ qs
   unfolding settled
   settled_own u none = refl
   settled_own u (more s ss) = rw (placed_own u s) (settled_own u ss)
