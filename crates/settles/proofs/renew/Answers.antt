@@ -5,6 +5,7 @@ use Rattle.rules.specs.Board.{confirmed_size, confirmed_most}
 use Rattle.table.proofs.Edited.{are_bytes_lem}
 use Rattle.by_id.proofs.ById.{searchable, in_table}
 use Rattle.settles.proofs.Renewing.{looked_same, looked_older, looked_none}
+use borrow.Author.Rules.{rules}
 use Rattle.settles.proofs.renew.Goals as goal
 
 pub find-requires : goal.find-requires
@@ -21,13 +22,13 @@ put_field-requires c =
     (p.0, (omega arith, p.1))
 
 pub returns-then-was-is : goal.returns-then-was-is
-returns-then-was-is c = let both = looked_same _ _ _ _ c.requires.recent_value _ (are_bytes_lem c.args.recent.now (λ i. (c.slice_known-1.given i).fits))
+returns-then-was-is c = let both = looked_same _ _ _ _ c.requires.recent_value _ (are_bytes_lem c.args.recent.now (λ i. search rules))
     (sym c.find.ensures ∙ c.in-At.is) _ c.height_at-old.ensures c.if-was-is.true in record { value = both.0; recent_after = both.1 }
 
 pub returns-else-was-is : goal.returns-else-was-is
-returns-else-was-is c = let both = looked_older _ _ _ _ c.requires.recent_value _ _ (are_bytes_lem c.put_field.new.table (λ i. (c.slice_known-else-was-is-1.given i).fits)) (omega arith)
+returns-else-was-is c = let both = looked_older _ _ _ _ c.requires.recent_value _ _ (are_bytes_lem c.put_field.new.table (λ i. (c.type_inv.recent i).fits)) (omega arith)
     (sym c.find.ensures ∙ c.in-At.is) _
     c.height_at-old.ensures c.if-was-is.false c.put_field.ensures in record { value = both.0; recent_after = both.1 }
 
 pub returns-in-Gap : goal.returns-in-Gap
-returns-in-Gap c = let both = looked_none _ _ _ _ c.requires.recent_value _ (are_bytes_lem c.args.recent.now (λ i. (c.slice_known-1.given i).fits)) (sym c.find.ensures ∙ c.in-Gap.is) in record { value = both.0; recent_after = both.1 }
+returns-in-Gap c = let both = looked_none _ _ _ _ c.requires.recent_value _ (are_bytes_lem c.args.recent.now (λ i. search rules)) (sym c.find.ensures ∙ c.in-Gap.is) in record { value = both.0; recent_after = both.1 }
