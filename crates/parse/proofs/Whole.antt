@@ -54,7 +54,7 @@ follows_takes n m = record { of = λ s. go s (leb n (length s)) refl }
     go s true e = so_many n (leb-true n (length s) e) refl
     go s false e = no_more
 
-follows_then : {A B : Type 0} (p : PartMut A) (k : A → PartMut B) (m : ℕ) (f : A → ℕ) (g : B → ℕ) → Follows p m f → ((a : A) → Follows (k a) (f a) g) → Follows (p >>= k) m g
+follows_then : {A B : Type 0} (p : Part A) (k : A → Part B) (m : ℕ) (f : A → ℕ) (g : B → ℕ) → Follows p m f → ((a : A) → Follows (k a) (f a) g) → Follows (p >>= k) m g
 unfolding ◌>>=◌
 follows_then {A} {B} p k m f g h j = record { of = λ s. go s (p s) (h.of s) }
   where
@@ -69,7 +69,7 @@ follows_then {A} {B} p k m f g h j = record { of = λ s. go s (p s) (h.of s) }
     go s (stopped why) no_more = no_more
     go s (got a _) (so_many n l e) = on s a n l e (k a (drop n s)) ((j a).of (drop n s))
 
-follows_next : {A B : Type 0} (p : PartMut A) (q : PartMut B) (m n : ℕ) (g : B → ℕ) → Follows p m (λ _. n) → Follows q n g → Follows (p >> q) m g
+follows_next : {A B : Type 0} (p : Part A) (q : Part B) (m n : ℕ) (g : B → ℕ) → Follows p m (λ _. n) → Follows q n g → Follows (p >> q) m g
 unfolding ◌>>◌ ◌>>=◌
 follows_next p q m n g h j = record { of = λ s. (follows_then p (λ _. q) m (λ _. n) g h (λ _. j)).of s }
 
