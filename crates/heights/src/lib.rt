@@ -5,7 +5,8 @@ ghost use Rattle.std.specs.Prelude.{◌≡◌, not, ◌&&◌, ◌+◌, ◌^◌, 
 ghost use Rattle.kinds.specs.Answers.{done};
 ghost use Rattle.rules.specs.Board.{board_of};
 ghost use Rattle.rules.specs.Estimator.{advance_height, advance_heights, skip_heights};
-ghost use Rattle.rules.specs.Memory.{lent, view};
+ghost use Rattle.rules.specs.Memory.{view};
+ghost use Rattle.rules.specs.Slices.{given, before, after};
 ghost use Rattle.rules.specs.Calls.{outcome, accepted};
 ghost use Rattle.ready.specs.Ready.{Ready};
 
@@ -21,9 +22,9 @@ pub fn advance_height(
     h: Height,
     on: Horizon,
 ) -> State
-    requires { Ready (board_of on) state (lent confirmed.old resolved.old pending.old recent.old) }
-    ensures { outcome done result (lent confirmed.new resolved.new pending.new recent.new)
-        ≡ accepted (board_of on) (advance_height (board_of on) h.0 (view (board_of on) state (lent confirmed.old resolved.old pending.old recent.old))) (lent confirmed.old resolved.old pending.old recent.old) }
+    requires { Ready (board_of on) state (given confirmed resolved pending recent) }
+    ensures { outcome done result (after confirmed resolved pending recent)
+        ≡ accepted (board_of on) (advance_height (board_of on) h.0 (view (board_of on) state (before confirmed resolved pending recent))) (before confirmed resolved pending recent) }
 {
     let used = state.pending;
     let kept = state.recent;
@@ -58,10 +59,10 @@ fn advance_heights(
     n: Blocks,
     on: Horizon,
 ) -> State
-    requires ready { Ready (board_of on) state (lent confirmed.old resolved.old pending.old recent.old) }
+    requires ready { Ready (board_of on) state (given confirmed resolved pending recent) }
     requires n_bound { low.0 + n.0 < 2 ^ 32 }
-    ensures { outcome done result (lent confirmed.new resolved.new pending.new recent.new)
-        ≡ accepted (board_of on) (advance_heights (board_of on) low.0 n.0 (view (board_of on) state (lent confirmed.old resolved.old pending.old recent.old))) (lent confirmed.old resolved.old pending.old recent.old) }
+    ensures { outcome done result (after confirmed resolved pending recent)
+        ≡ accepted (board_of on) (advance_heights (board_of on) low.0 n.0 (view (board_of on) state (before confirmed resolved pending recent))) (before confirmed resolved pending recent) }
 {
     let from = low.0;
     let count = n.0;
@@ -95,9 +96,9 @@ pub fn skip_heights(
     h: Height,
     on: Horizon,
 ) -> State
-    requires { Ready (board_of on) state (lent confirmed.old resolved.old pending.old recent.old) }
-    ensures { outcome done result (lent confirmed.new resolved.new pending.new recent.new)
-        ≡ accepted (board_of on) (skip_heights (board_of on) state.last h.0 (view (board_of on) state (lent confirmed.old resolved.old pending.old recent.old))) (lent confirmed.old resolved.old pending.old recent.old) }
+    requires { Ready (board_of on) state (given confirmed resolved pending recent) }
+    ensures { outcome done result (after confirmed resolved pending recent)
+        ≡ accepted (board_of on) (skip_heights (board_of on) state.last h.0 (view (board_of on) state (before confirmed resolved pending recent))) (before confirmed resolved pending recent) }
 {
     let last = state.last;
     let Last::At(low) = last else {
