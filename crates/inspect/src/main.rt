@@ -6,9 +6,11 @@ ghost use Rattle.std.specs.Prelude.{◌≡◌};
 ghost use Rattle.inspect.specs.Words.{chain_of};
 
 use kinds::Height;
-use libc::{STDERR_FILENO, STDIN_FILENO, STDOUT_FILENO};
 use premise::Chain;
 use script::numbers::{Number, number_in};
+use std::env::FillError;
+use std::io;
+use std::rt::Env;
 
 // The chain's height that a word says, of 32 bits; untold where it says none.
 fn chain_of(word: &[u8]) -> Chain
@@ -21,52 +23,60 @@ fn chain_of(word: &[u8]) -> Chain
     Chain::Tip(Height(n as u32))
 }
 
+// Whether there is a word of that number; the program's name is number 0.
+fn has_word(rt: &impl Env, number: usize) -> bool {
+    let mut word = [0u8; 1];
+    match rt.arg(number, &mut word) {
+        Err(FillError::NotPresent) => false,
+        _ => true,
+    }
+}
+
 // Whether there are two words after the program's name, and the first is `--chain`.
-fn names_chain() -> bool {
-    if os::arg_count() != 3 {
+fn names_chain(rt: &impl Env) -> bool {
+    if !has_word(rt, 2) || has_word(rt, 3) {
         return false;
     }
     let mut word = [0u8; 8];
-    let n = os::arg(1, &mut word);
-    check::same(&word[..n], b"--chain")
+    let Ok(n) = rt.arg(1, &mut word) else {
+        return false;
+    };
+    &word[..n] == b"--chain".as_slice()
 }
 
 // The chain's height that the second word says.
-fn told_chain() -> Chain {
+fn told_chain(rt: &impl Env) -> Chain {
     let mut word = [0u8; 16];
-    let n = os::arg(2, &mut word);
+    let Ok(n) = rt.arg(2, &mut word) else {
+        return Chain::Untold;
+    };
     chain_of(&word[..n])
 }
 
 // Reads the file, and prints what it tells.
-fn inspect(chain: Chain) {
-    if !views::inspect(STDIN_FILENO, STDOUT_FILENO, chain) {
-        io::write_all(STDERR_FILENO, b"inspect: the output is lost\n");
+fn inspect(rt: HostRuntime, chain: Chain) -> io::Result<()> {
+    if !views::inspect(rt.alloc(), &mut rt.reader(), &rt, chain)? {
+        eprintln!(rt; "inspect: the output is lost")?;
     }
+    Ok(())
 }
 
 // Says which words there may be.
-fn refuse() {
-    io::write_all(
-        STDERR_FILENO,
-        b"inspect: expected no word, or --chain and a height from 0 to 4294967295\n",
-    );
+fn refuse(rt: &impl Eprint) -> io::Result<()> {
+    eprintln!(rt; "inspect: expected no word, or --chain and a height from 0 to 4294967295")
 }
 
 // No word, or `--chain` and a height.
-fn main() {
-    if os::arg_count() < 2 {
-        inspect(Chain::Untold);
-        return;
+fn main(rt: HostRuntime) -> io::Result<()> {
+    if !has_word(&rt, 1) {
+        return inspect(rt, Chain::Untold);
     }
-    if names_chain() {
-        let chain = told_chain();
+    if names_chain(&rt) {
+        let chain = told_chain(&rt);
         let Chain::Tip(height) = chain else {
-            refuse();
-            return;
+            return refuse(&rt);
         };
-        inspect(Chain::Tip(height));
-        return;
+        return inspect(rt, Chain::Tip(height));
     }
-    refuse();
+    refuse(&rt)
 }
