@@ -17,6 +17,7 @@ use lines::Line;
 use page::Operation;
 use print::put;
 use script::sums::{sum_bytes, sum_doubles};
+use std::io;
 
 // How many columns a board has.
 const COLUMNS: u32 = MAX_CONF_TARGET as u32;
@@ -31,45 +32,65 @@ fn target_of(column: u32, on: Horizon) -> Blocks
 }
 
 // The words for the targets of all columns, a space after each but the last.
-fn say_targets(state: State, confirmed: &[f64], resolved: &[f64], on: Horizon) {
+fn say_targets(
+    out: &impl Print,
+    state: State,
+    confirmed: &[f64],
+    resolved: &[f64],
+    on: Horizon,
+) -> io::Result<()> {
     let mut column: u32 = 0;
     while column < COLUMNS {
         column += 1;
         let target = target_of(column, on);
-        say_target(estimate(state, confirmed, resolved, target, on));
+        say_target(out, estimate(state, confirmed, resolved, target, on))?;
         if column < COLUMNS {
-            say_text(b" ");
+            say_text(out, " ")?;
         }
     }
-    say_text(b"\n");
+    say_text(out, "\n")
 }
 
 // estimates
-fn estimates(state: State, confirmed: &[f64], resolved: &[f64], on: Horizon) {
+fn estimates(
+    out: &impl Print,
+    state: State,
+    confirmed: &[f64],
+    resolved: &[f64],
+    on: Horizon,
+) -> io::Result<()> {
     let e = estimate(state, confirmed, resolved, Blocks(1), on);
     match e {
-        Estimated::Damaged => say_estimate(e),
-        _ => say_targets(state, confirmed, resolved, on),
+        Estimated::Damaged => say_estimate(out, e),
+        _ => say_targets(out, state, confirmed, resolved, on),
     }
 }
 
 // sum
-fn sums(state: State, pending: &[u8], recent: &[u8], confirmed: &[f64], resolved: &[f64]) {
+fn sums(
+    out: &impl Print,
+    state: State,
+    pending: &[u8],
+    recent: &[u8],
+    confirmed: &[f64],
+    resolved: &[f64],
+) -> io::Result<()> {
     let last = state.last;
-    say_last(last);
-    say_text(b" ");
-    say(state.pending as u64);
-    say_text(b" ");
-    say(state.recent as u64);
-    say_sum(sum_bytes(pending));
-    say_sum(sum_bytes(recent));
-    say_sum(sum_doubles(confirmed));
-    say_sum(sum_doubles(resolved));
-    say_text(b"\n");
+    say_last(out, last)?;
+    say_text(out, " ")?;
+    say(out, state.pending as u64)?;
+    say_text(out, " ")?;
+    say(out, state.recent as u64)?;
+    say_sum(out, sum_bytes(pending))?;
+    say_sum(out, sum_bytes(recent))?;
+    say_sum(out, sum_doubles(confirmed))?;
+    say_sum(out, sum_doubles(resolved))?;
+    say_text(out, "\n")
 }
 
 // write, into as many bytes as the buffer has: how many bytes are kept, where so many were
 fn write(
+    out: &impl Print,
     state: State,
     pending: &[u8],
     recent: &[u8],
@@ -79,7 +100,7 @@ fn write(
     kept: &mut [u8],
     n: usize,
     on: Horizon,
-) -> usize {
+) -> io::Result<usize> {
     fill(buffer, 0xaa);
     let version = own_version(on);
     let w = to_history_bytes(
@@ -88,23 +109,24 @@ fn write(
     let answer = w.answer;
     match answer {
         WriteAnswer::Done => {
-            say_wrote(w.len, sum_bytes(buffer));
+            say_wrote(out, w.len, sum_bytes(buffer))?;
             put(kept, 0, front(buffer, w.len));
-            w.len
+            Ok(w.len)
         }
         WriteAnswer::Damaged => {
-            say_line(answer.number() as u64);
-            n
+            say_line(out, answer.number() as u64)?;
+            Ok(n)
         }
         WriteAnswer::ShortOutput(needed) => {
-            say_carrying(answer.number(), needed as u64);
-            n
+            say_carrying(out, answer.number(), needed as u64)?;
+            Ok(n)
         }
     }
 }
 
 // The question of a line. How many bytes are kept after it, where n were.
 pub(crate) fn ask(
+    out: &impl Print,
     line: Line,
     state: State,
     pending: &[u8],
@@ -115,19 +137,20 @@ pub(crate) fn ask(
     kept: &mut [u8],
     n: usize,
     on: Horizon,
-) -> usize {
+) -> io::Result<usize> {
     let of = line.operation;
     match of {
-        Operation::Bucket => say_bucket(bucket_index_for_rate(FeeRate(line.a))),
+        Operation::Bucket => say_bucket(out, bucket_index_for_rate(FeeRate(line.a)))?,
         Operation::Estimate => {
             let target = Blocks((line.a % 4294967296) as u32);
-            say_estimate(estimate(state, confirmed, resolved, target, on));
+            say_estimate(out, estimate(state, confirmed, resolved, target, on))?;
         }
-        Operation::Estimates => estimates(state, confirmed, resolved, on),
-        Operation::Sum => sums(state, pending, recent, confirmed, resolved),
+        Operation::Estimates => estimates(out, state, confirmed, resolved, on)?,
+        Operation::Sum => sums(out, state, pending, recent, confirmed, resolved)?,
         Operation::Write => {
             let end = least(line.a as usize, buffer.len());
             return write(
+                out,
                 state,
                 pending,
                 recent,
@@ -141,5 +164,5 @@ pub(crate) fn ask(
         }
         _ => {}
     }
-    n
+    Ok(n)
 }

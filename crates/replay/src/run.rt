@@ -1,4 +1,6 @@
 // A script, line by line.
+ghost use Rattle.std.specs.Prelude.{◌≤◌, length};
+
 use crate::asks::ask;
 use crate::parts::{begins, ends, front};
 use crate::says::{say_end, say_reply};
@@ -8,6 +10,7 @@ use gathers::gather;
 use kinds::{Horizon, State};
 use lines::{Line, asked};
 use page::{MOST_COUNTS, MOST_PENDING, MOST_RECENT, Operation};
+use std::io;
 
 // What a run keeps of a board.
 #[derive(Clone, Copy)]
@@ -130,19 +133,20 @@ fn after(r: Progress, line: Line, left: Left) -> Progress {
 }
 
 // Says what a line is answered with, and gives what it leaves.
-fn told(done: Done, kept: usize) -> Left {
+fn told(out: &impl Print, done: Done, kept: usize) -> io::Result<Left> {
     let reply = done.reply;
     let state = done.state;
-    say_reply(reply);
-    Left {
+    say_reply(out, reply)?;
+    Ok(Left {
         fits: done.fits,
         state,
         kept,
-    }
+    })
 }
 
 // One line, over what its board is lent, where n bytes are kept. What it changes is done first, then what it asks for is told.
 fn act(
+    out: &impl Print,
     line: Line,
     state: State,
     text: &[u8],
@@ -154,18 +158,19 @@ fn act(
     kept: &mut [u8],
     n: usize,
     on: Horizon,
-) -> Left {
+) -> io::Result<Left> {
     let m = gather(line, text, front(kept, n), buffer);
     let bytes = front(buffer, m);
     let done = change(line, state, bytes, pending, recent, confirmed, resolved, on);
     let left = ask(
-        line, state, pending, recent, confirmed, resolved, buffer, kept, n, on,
-    );
-    told(done, left)
+        out, line, state, pending, recent, confirmed, resolved, buffer, kept, n, on,
+    )?;
+    told(out, done, left)
 }
 
 // The same, of as much memory as the board is lent.
 fn turn(
+    out: &impl Print,
     line: Line,
     own: Loan,
     text: &[u8],
@@ -177,7 +182,7 @@ fn turn(
     kept: &mut [u8],
     n: usize,
     on: Horizon,
-) -> Left {
+) -> io::Result<Left> {
     let state = own.state;
     let p0 = begins(MOST_PENDING, pending.len(), on);
     let p1 = ends(p0, own.pending, pending.len());
@@ -188,6 +193,7 @@ fn turn(
     let b0 = begins(MOST_COUNTS, resolved.len(), on);
     let b1 = ends(b0, own.resolved, resolved.len());
     act(
+        out,
         line,
         state,
         text,
@@ -202,8 +208,21 @@ fn turn(
     )
 }
 
+// Where the line that begins at `at` ends: its LF's place, or the end of the script.
+fn line_end(script: &[u8], at: usize) -> usize
+    requires { at ≤ length script.now }
+    ensures { (at ≤ result) × (result ≤ length script.now) }
+{
+    let mut end = at;
+    while end < script.len() && script[end] != b'\n' {
+        end += 1;
+    }
+    end
+}
+
 // A whole script; a line that does not fit, or has no LF, is told by its number.
 pub(crate) fn run(
+    out: &impl Print,
     script: &[u8],
     pending: &mut [u8],
     recent: &mut [u8],
@@ -211,7 +230,7 @@ pub(crate) fn run(
     resolved: &mut [f64],
     buffer: &mut [u8],
     kept: &mut [u8],
-) {
+) -> io::Result<()> {
     let mut r = fresh();
     let mut at = 0;
     let mut lines = 0;
@@ -220,16 +239,16 @@ pub(crate) fn run(
             break;
         }
         lines += 1;
-        let end = bytes::scan::find(script, at, script.len(), b'\n');
+        let end = line_end(script, at);
         let on = r.on;
         let own = r.own;
         let text = &script[at..end];
         let line = asked(text, end < script.len(), own.begun, on);
         let left = turn(
-            line, own, text, pending, recent, confirmed, resolved, buffer, kept, r.kept, on,
-        );
+            out, line, own, text, pending, recent, confirmed, resolved, buffer, kept, r.kept, on,
+        )?;
         r = after(r, line, left);
         at = end + 1;
     }
-    say_end(r.fits, lines);
+    say_end(out, r.fits, lines)
 }
