@@ -1,16 +1,11 @@
 -- A block by the answer that it gets: a refusal leaves all as it was, and a block that is not refused is sound and has room. Assumes nothing.
 use mathlib.Core.Path.{◌≡◌, refl, sym, ap, ◌∙◌}
 use mathlib.Core.Bool.{Bool, true, false, not, cond}
-use mathlib.Core.Logic.{⊎_elim}
-use mathlib.Core.List.{[], ◌∷◌}
 use Prim.Native.Nat.{◌%◌, ◌≤◌}
 use native.Mathlib.Omega.{arith}
 use borrow.Author.Tests.{ltb-false, not-false}
 use lib.Dec.{ltb, eqb}
 use lib.ListN.{length}
-use types.Run.{OneOf}
-use denote.Enum.Declared.{tag_of}
-use Rattle.kinds.specs.contracts.BlockAnswer.{the_type}
 use Rattle.kinds.specs.declared.State.{State}
 use Rattle.kinds.specs.declared.BlockAnswer.{BlockAnswer}
 use Rattle.kinds.specs.Answers.{Answer, done, damaged, bad_list, gap_too_wide, confirmed_full, block_answer}
@@ -31,9 +26,9 @@ as_refused : {L : Type 0} {s : State} {l : L} {o : Outcome L} → DoneOrAsGiven 
 as_refused (is_done e) a q n = absurd (n (ap (λ (b : Answer). b.number) q ∙ e))
 as_refused {s = s} {l = l} (as_given b) a q n = ap (λ (c : Answer). outcome c s l) q
 
--- each answer but Done, which is the enum's case 0, has a number of its own
-not_done : (a : BlockAnswer) → OneOf (1 ∷ 2 ∷ 3 ∷ 4 ∷ []) (tag_of the_type a) → (block_answer a).number ≡ 0 → ⊥
-not_done BlockAnswer.Done h e = ⊎_elim (λ o. omega arith) (⊎_elim (λ o. omega arith) (⊎_elim (λ o. omega arith) (λ o. omega arith))) h
+-- each answer but Done has a number of its own
+not_done : (a : BlockAnswer) → (a ≡ BlockAnswer.Done → ⊥) → (block_answer a).number ≡ 0 → ⊥
+not_done BlockAnswer.Done h e = absurd (h refl)
 not_done BlockAnswer.Damaged h e = omega arith
 not_done BlockAnswer.BadList h e = omega arith
 not_done BlockAnswer.GapTooWide h e = omega arith
@@ -46,7 +41,7 @@ module _ (k : Board) (a : Block) where
   abbrev l : Lent
   l = a.lent
 
-  pub block_refusal : (b : BlockAnswer) → block_answer b ≡ (says k a).answer → OneOf (1 ∷ 2 ∷ 3 ∷ 4 ∷ []) (tag_of the_type b) → outcome (block_answer b) s l ≡ says k a
+  pub block_refusal : (b : BlockAnswer) → block_answer b ≡ (says k a).answer → (b ≡ BlockAnswer.Done → ⊥) → outcome (block_answer b) s l ≡ says k a
   block_refusal b q h = as_refused (block_refused k s l a.ids a.height) (block_answer b) q (not_done b h)
 
   module _ (e : done ≡ (says k a).answer) where

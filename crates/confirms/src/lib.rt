@@ -6,7 +6,8 @@ ghost use Rattle.kinds.specs.Answers.{done};
 ghost use Rattle.rules.specs.Lists.{count};
 ghost use Rattle.rules.specs.Board.{board_of};
 ghost use Rattle.rules.specs.Estimator.{confirm_all};
-ghost use Rattle.rules.specs.Memory.{lent, view, confirmed_capacity};
+ghost use Rattle.rules.specs.Memory.{view, confirmed_capacity};
+ghost use Rattle.rules.specs.Slices.{given, before, after};
 ghost use Rattle.rules.specs.Calls.{outcome, accepted, ids_of};
 ghost use Rattle.ready.specs.Ready.{Ready};
 
@@ -42,11 +43,11 @@ pub fn confirm_all(
     h: Height,
     on: Horizon,
 ) -> State
-    requires ready { Ready (board_of on) state (lent confirmed.old resolved.old pending.old recent.old) }
-    requires recent_len_bound { length (confirm_all (board_of on) h.0 (ids_of ids.now) (view (board_of on) state (lent confirmed.old resolved.old pending.old recent.old))).recent ≤ confirmed_capacity recent.old }
-    ensures { outcome done result (lent confirmed.new resolved.new pending.new recent.new)
-        ≡ accepted (board_of on) (confirm_all (board_of on) h.0 (ids_of ids.now) (view (board_of on) state (lent confirmed.old resolved.old pending.old recent.old)))
-        (lent confirmed.old resolved.old pending.old recent.old) }
+    requires ready { Ready (board_of on) state (given confirmed resolved pending recent) }
+    requires recent_len_bound { length (confirm_all (board_of on) h.0 (ids_of ids.now) (view (board_of on) state (given confirmed resolved pending recent))).recent ≤ confirmed_capacity recent.old }
+    ensures { outcome done result (after confirmed resolved pending recent)
+        ≡ accepted (board_of on) (confirm_all (board_of on) h.0 (ids_of ids.now) (view (board_of on) state (before confirmed resolved pending recent)))
+        (before confirmed resolved pending recent) }
 {
     if ids.len() < 32 {
         return state;
