@@ -1,15 +1,10 @@
 -- The rows of the page on lent memory itself. Assumes nothing.
-use mathlib.Core.Path.{◌≡◌, sym, ap, ◌∙◌}
+use mathlib.Core.Path.{◌≡◌, refl, sym, ap, ◌∙◌}
 use mathlib.Core.Bool.{Bool, true}
-use mathlib.Core.Logic.{⊎_elim}
-use mathlib.Core.List.{List, [], ◌∷◌}
+use mathlib.Core.List.{List}
 use Prim.Native.Nat.{ℕ}
-use types.Run.{OneOf}
-use denote.Enum.Declared.{tag_of}
 use Rattle.rules.specs.Memory.{Lent}
 use Rattle.page.specs.declared.page.Operation.{Operation}
-use Rattle.page.specs.contracts.page.Operation as operation
-use Rattle.page.proofs.Places.{at, placed}
 use Rattle.lines.specs.declared.lines.Line.{Line}
 use Rattle.desk_lays.specs.Lays.{Laid, laid, Lain, lain, operation_lays}
 
@@ -22,12 +17,25 @@ module _ (of : Operation) (line : Line) (text : List ℕ) (l : Lent) where
   pub by : (o : Operation) (d : Lain) → of ≡ o → d ≡ operation_lays o line text l → d ≡ operation_lays of line text l
   by o d e p = p ∙ sym (ap (λ (x : Operation). operation_lays x line text l) e)
 
-  -- the same, by the place of the operation
-  row : (k : ℕ) → tag_of operation.the_type of ≡ k → operation_lays of line text l ≡ operation_lays (at k) line text l
-  row k e = ap (λ (o : Operation). operation_lays o line text l) (placed of ∙ ap at e)
-
-  -- the lines that leave it
-  pub others : OneOf (0 ∷ 1 ∷ 2 ∷ 6 ∷ 7 ∷ 8 ∷ 9 ∷ 10 ∷ 11 ∷ 12 ∷ 13 ∷ 14 ∷ 15 ∷ 16 ∷ 17 ∷ 18 ∷ []) (tag_of operation.the_type of) → operation_lays of line text l ≡ lain true l
-  unfolding operation_lays
-  others h =
-      ⊎_elim (row 0) (⊎_elim (row 1) (⊎_elim (row 2) (⊎_elim (row 6) (⊎_elim (row 7) (⊎_elim (row 8) (⊎_elim (row 9) (⊎_elim (row 10) (⊎_elim (row 11) (⊎_elim (row 12) (⊎_elim (row 13) (⊎_elim (row 14) (⊎_elim (row 15) (⊎_elim (row 16) (⊎_elim (row 17) (row 18))))))))))))))) h
+-- the lines that leave it
+pub others : (of : Operation) (line : Line) (text : List ℕ) (l : Lent) → (of ≡ Operation.Lend → ⊥) → (of ≡ Operation.Byte → ⊥) → (of ≡ Operation.Count → ⊥) → operation_lays of line text l ≡ lain true l
+unfolding operation_lays
+others Operation.Unfit line text l a b c = refl
+others Operation.PassedOver line text l a b c = refl
+others Operation.Board line text l a b c = refl
+others Operation.Lend line text l a b c = absurd (a refl)
+others Operation.Byte line text l a b c = absurd (b refl)
+others Operation.Count line text l a b c = absurd (c refl)
+others Operation.State line text l a b c = refl
+others Operation.Start line text l a b c = refl
+others Operation.Enter line text l a b c = refl
+others Operation.Leave line text l a b c = refl
+others Operation.Block line text l a b c = refl
+others Operation.BlockRaw line text l a b c = refl
+others Operation.Estimate line text l a b c = refl
+others Operation.Estimates line text l a b c = refl
+others Operation.Bucket line text l a b c = refl
+others Operation.Write line text l a b c = refl
+others Operation.Read line text l a b c = refl
+others Operation.Again line text l a b c = refl
+others Operation.Sum line text l a b c = refl
