@@ -9,8 +9,8 @@ use Rattle.rules.specs.Counts.{Counts, columns, nought, cell, is_zero}
 use Rattle.floats.proofs.Bits.{zero_is}
 use Rattle.floats.proofs.Zeros.{zero_tested}
 use Rattle.lists.specs.Part.{part}
-use Rattle.lists.proofs.Part.{get_d_part}
-use Rattle.lists.proofs.Lists.{get_d_within}
+use Rattle.lists.proofs.Part.{get_or_part}
+use Rattle.lists.proofs.Lists.{get_or_within}
 
 -- the source's `x == 0.0`
 is_tested : (x : Float) → eq x (of_bits binary64 0) ≡ is_zero x
@@ -23,10 +23,10 @@ module _ (b : ℕ) (xs : Counts) where
 
   -- its `counts[at + i] == 0.0` is the test of count i of the row
   pub tested : (i : ℕ) → i < 25 → eq (get_or xs (b * 25 + i) nan) (of_bits binary64 0) ≡ is_zero (get_or row i nan)
-  tested i k = is_tested (get_or xs (b * 25 + i) nan) ∙ ap is_zero (sym (get_d_part 25 b xs i nan k))
+  tested i k = is_tested (get_or xs (b * 25 + i) nan) ∙ ap is_zero (sym (get_or_part 25 b xs i nan k))
 
   module _ (h : b * 25 + 25 ≤ length xs) where
     -- its `counts[last] != 0.0`
     pub last_tested : ne (get_or xs (b * 25 + 24) nan) (of_bits binary64 0) ≡ not (is_zero (cell xs b columns))
     unfolding ne
-    last_tested = ap (λ (x : Float). not (eq x (of_bits binary64 0))) (get_d_within xs (b * 25 + 24) nan nought (omega arith)) ∙ ap not (is_tested (cell xs b columns))
+    last_tested = ap (λ (x : Float). not (eq x (of_bits binary64 0))) (get_or_within xs (b * 25 + 24) nan nought (omega arith)) ∙ ap not (is_tested (cell xs b columns))

@@ -10,7 +10,7 @@ use Rattle.rules.specs.Counts.{Counts, empty_row}
 use Rattle.floats.specs.Factor.{Factor}
 use Rattle.floats.proofs.Zeros.{row_stays}
 use Rattle.lists.specs.Part.{part, part_put}
-use Rattle.lists.proofs.Part.{length_part, get_d_part, put_same}
+use Rattle.lists.proofs.Part.{length_part, get_or_part, put_same}
 use Rattle.decay.specs.Decay.{often, row_decayed}
 use Rattle.decay.proofs.Often.{stays}
 
@@ -25,7 +25,7 @@ module _ (b : ℕ) (xs : Counts) (h : b * 25 + 25 ≤ length xs) where
     pub skipped : empty_row row ≡ true → xs ≡ row_decayed b d n xs
     skipped e =
         let fit : (i : ℕ) → i < length row → T (fits binary64 (get_or row i nan)) =
-        λ i k. subst (λ (x : Float). T (fits binary64 x)) (sym (get_d_part 25 b xs i nan (rw (length_part 25 b xs h) at k))) (f (b * 25 + i)) in
+        λ i k. subst (λ (x : Float). T (fits binary64 x)) (sym (get_or_part 25 b xs i nan (rw (length_part 25 b xs h) at k))) (f (b * 25 + i)) in
         sym (rw (stays n d row (row_stays q row fit e)) (put_same 25 b xs h))
 
     -- a row that is stored unless it is empty

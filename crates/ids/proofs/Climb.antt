@@ -12,7 +12,7 @@ use Rattle.lists.proofs.Part.{next_part}
 use Rattle.mem.specs.Be.{be_at}
 use Rattle.ids.proofs.Ids.{id32, below_cmp_is}
 use Rattle.ids.proofs.First.{words_below}
-use Rattle.ids.proofs.Records.{length_ids, get_d_ids, record_end}
+use Rattle.ids.proofs.Records.{length_ids, get_or_ids, record_end}
 use Rattle.ids.proofs.Rising.{rising_turn, rising_short}
 
 -- the ids of the records
@@ -50,8 +50,8 @@ module _ {size used : ℕ} {xs : List ℕ} {last i : ℕ} (c : Climb size used x
   neighbours l =
       let n : i - 1 + 1 ≡ i = omega (arith, c.i_from) in
       let p : (i - 1) * size ≡ i * size - size = (let e = next_part size (i - 1) in let f : (i - 1 + 1) * size ≡ i * size = ap (λ (k : ℕ). k * size) n in omega arith) in
-      let first : get_or (ids size used xs) (i - 1) [] ≡ id32 (i * size - size) xs = get_d_ids size used (i - 1) xs c.wide (omega arith) ∙ ap (λ (k : ℕ). id32 k xs) p in
-      let second : get_or (ids size used xs) (i - 1 + 1) [] ≡ id32 (i * size) xs = ap (λ (k : ℕ). get_or (ids size used xs) k []) n ∙ get_d_ids size used i xs c.wide l in
+      let first : get_or (ids size used xs) (i - 1) [] ≡ id32 (i * size - size) xs = get_or_ids size used (i - 1) xs c.wide (omega arith) ∙ ap (λ (k : ℕ). id32 k xs) p in
+      let second : get_or (ids size used xs) (i - 1 + 1) [] ≡ id32 (i * size) xs = ap (λ (k : ℕ). get_or (ids size used xs) k []) n ∙ get_or_ids size used i xs c.wide l in
       let turn = rising_turn (ids size used xs) (i - 1) (omega (arith, length_ids size used xs)) in
       turn ∙ rw (first, second, n, below_cmp_is)
 

@@ -90,7 +90,7 @@ module _ (a : List ℕ) (p : ℕ) (b : List ℕ) (q : ℕ) (ha : p + 32 ≤ leng
   abbrev left : ℕ → Order
   left i = cmp (drop i (id32 p a)) (drop i (id32 q b))
 
-  -- `cmp-turn` with the places under any names
+  -- `cmp_turn` with the places under any names
   byte : (i j k l : ℕ) → k ≡ p + i → l ≡ q + i → j ≡ i + 1 → i < 32 → left i ≡ step (get_or a k 0) (get_or b l 0) (left j)
   byte i j k l d e f h = cmp_turn a p b q i ha hb h ∙ ap (λ (o : Order). step (get_or a (p + i) 0) (get_or b (q + i) 0) o) (ap left (sym f)) ∙ ap (λ (n : ℕ). step (get_or a n 0) (get_or b (q + i) 0) (left j)) (sym d) ∙ ap (λ (n : ℕ). step (get_or a k 0) (get_or b n 0) (left j)) (sym e)
 

@@ -107,8 +107,8 @@ id32 p a = take 32 (drop p a)
 length_id32 : (p : ℕ) (a : List ℕ) → p + 32 ≤ length a → length (id32 p a) ≡ 32
 length_id32 p a h = simp (length-take, length-drop) (omega arith)
 
-get_d_id32 : (p i : ℕ) (a : List ℕ) → i < 32 → get_or (id32 p a) i 0 ≡ get_or a (p + i) 0
-get_d_id32 p i a h = get_or-take 32 (drop p a) i 0 h ∙ get_or-drop p a i 0
+get_or_id32 : (p i : ℕ) (a : List ℕ) → i < 32 → get_or (id32 p a) i 0 ≡ get_or a (p + i) 0
+get_or_id32 p i a h = get_or-take 32 (drop p a) i 0 h ∙ get_or-drop p a i 0
 
 cmp_drop : (A B : List ℕ) (i : ℕ) → i < length A → i < length B
     → cmp (drop i A) (drop i B) ≡ cond (ltb (get_or A i 0) (get_or B i 0)) Less (cond (ltb (get_or B i 0) (get_or A i 0)) Greater (cmp (drop (suc i) A) (drop (suc i) B)))
@@ -119,7 +119,7 @@ cmp_drop A B i h k = rw (drop-cons A i 0 h, drop-cons B i 0 k)
 pub cmp_turn : (a : List ℕ) (p : ℕ) (b : List ℕ) (q i : ℕ) → p + 32 ≤ length a → q + 32 ≤ length b → i < 32
     → cmp (drop i (id32 p a)) (drop i (id32 q b)) ≡ cond (ltb (get_or a (p + i) 0) (get_or b (q + i) 0)) Less (cond (ltb (get_or b (q + i) 0) (get_or a (p + i) 0)) Greater (cmp (drop (i + 1) (id32 p a)) (drop (i + 1) (id32 q b))))
 cmp_turn a p b q i ha hb hi =
-    rw (add-one, ← get_d_id32 p i a hi, ← get_d_id32 q i b hi)
+    rw (add-one, ← get_or_id32 p i a hi, ← get_or_id32 q i b hi)
     (cmp_drop (id32 p a) (id32 q b) i (rw (length_id32 p a ha) hi) (rw (length_id32 q b hb) hi))
 
 -- where the loop that compares ends

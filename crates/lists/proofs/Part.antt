@@ -18,8 +18,8 @@ module _ {A : Type 0} (w b : ℕ) (xs : List A) where
   pub length_part : b * w + w ≤ length xs → length (part w b xs) ≡ w
   length_part h = length-take-le w (drop (b * w) xs) (omega (arith, length-drop (b * w) xs))
 
-  pub get_d_part : (i : ℕ) (z : A) → i < w → get_or (part w b xs) i z ≡ get_or xs (b * w + i) z
-  get_d_part i z h = get_or-take w (drop (b * w) xs) i z h ∙ get_or-drop (b * w) xs i z
+  pub get_or_part : (i : ℕ) (z : A) → i < w → get_or (part w b xs) i z ≡ get_or xs (b * w + i) z
+  get_or_part i z h = get_or-take w (drop (b * w) xs) i z h ∙ get_or-drop (b * w) xs i z
 
   -- a part put back where it stood changes nothing
   pub put_same : b * w + w ≤ length xs → part_put w b (part w b xs) xs ≡ xs

@@ -15,7 +15,7 @@ use Rattle.rules.specs.Ladder.{ladder, buckets}
 use Rattle.rules.specs.Counts.{nought}
 use Rattle.rules.specs.Estimate.{Sums, passes, column, add_bucket, sums_down_to, rate_in_column}
 use Rattle.floats.proofs.Bits.{zero_is}
-use Rattle.lists.proofs.Lists.{get_d_within}
+use Rattle.lists.proofs.Lists.{get_or_within}
 use Rattle.scan.specs.declared.Scan.{Scan}
 use Rattle.scan.specs.Sums.{estimated, rate_of, shown}
 
@@ -24,13 +24,13 @@ unfolding column
 length_column zero c xs = refl
 length_column (suc n) c xs = ap suc (length_column n c (drop 25 xs))
 
-get_d_column : (n c : ℕ) (xs : List Float) (k : ℕ) → k < n → get_or (column n c xs) k nought ≡ get_or xs (k * 25 + (c - 1)) nought
+get_or_column : (n c : ℕ) (xs : List Float) (k : ℕ) → k < n → get_or (column n c xs) k nought ≡ get_or xs (k * 25 + (c - 1)) nought
 unfolding column
-get_d_column zero c xs k h = absurd (not-suc-le-zero h)
-get_d_column (suc n) c xs zero h = rw (zero-add (c - 1))
-get_d_column (suc n) c xs (suc k) h =
+get_or_column zero c xs k h = absurd (not-suc-le-zero h)
+get_or_column (suc n) c xs zero h = rw (zero-add (c - 1))
+get_or_column (suc n) c xs (suc k) h =
     let e : 25 + (k * 25 + (c - 1)) ≡ suc k * 25 + (c - 1) = omega arith in
-    get_d_column n c (drop 25 xs) k (le_of_suc-le-suc h) ∙ get_or-drop 25 xs (k * 25 + (c - 1)) nought ∙ ap (λ (j : ℕ). get_or xs j nought) e
+    get_or_column n c (drop 25 xs) k (le_of_suc-le-suc h) ∙ get_or-drop 25 xs (k * 25 + (c - 1)) nought ∙ ap (λ (j : ℕ). get_or xs j nought) e
 
 -- the rules' sums from bucket b on
 abbrev pub sums_of : ℕ → List Float → List Float → ℕ → Sums
@@ -46,7 +46,7 @@ unfolding sums_down_to
 sums_more c cs rs b h =
     let lc = length_column 142 c cs in
     let lr = length_column 142 c rs in
-    rw (drop-cons (column 142 c cs) b nought (omega arith), drop-cons (column 142 c rs) b nought (omega arith), get_d_column 142 c cs b h, get_d_column 142 c rs b h)
+    rw (drop-cons (column 142 c cs) b nought (omega arith), drop-cons (column 142 c rs) b nought (omega arith), get_or_column 142 c cs b h, get_or_column 142 c rs b h)
 
 -- before the first bucket
 pub shown_none : (c : ℕ) (cs rs : List Float) → shown (record { confirmed = of_bits binary64 0; resolved = of_bits binary64 0; best = 142 }) ≡ sums_of c cs rs 142
@@ -76,7 +76,7 @@ shown_turn c cs rs n s t p h k q lc lr w e =
     let i : ℕ = b * 25 + (c - 1) in
     e
     ∙ ap (add_bucket b (get_or cs i nan) (get_or rs i nan)) (w ∙ ap (sums_of c cs rs) m)
-    ∙ rw (get_d_within cs i nan nought (omega arith), get_d_within rs i nan nought (omega arith)) (sym (sums_more c cs rs b (omega arith)))
+    ∙ rw (get_or_within cs i nan nought (omega arith), get_or_within rs i nan nought (omega arith)) (sym (sums_more c cs rs b (omega arith)))
 
 -- the answer of the last one, if it is a bucket
 module _ (c : ℕ) (cs rs : List Float) (n : ℕ) (z : n ≡ 0) (s : Scan) (e : shown s ≡ sums_of c cs rs n) where

@@ -18,7 +18,7 @@ use Rattle.ids.specs.declared.Found.{Found}
 use Rattle.ids.specs.declared.Found.TheVariants.{At, Gap}
 use Rattle.ids.proofs.Search.{at_told}
 use Rattle.table.proofs.View.{gap_any, at_set, map_set}
-use Rattle.ids.proofs.Records.{get_d_records}
+use Rattle.ids.proofs.Records.{get_or_records}
 use Rattle.table.proofs.Records.{sized_set, sized_at}
 use Rattle.table.proofs.Holding.{Holds, holds_own, holds_length, holds_records, holds_then}
 
@@ -84,7 +84,7 @@ module _ (size used n : ℕ) (xs file : List ℕ) where
   pub part_is : (i : ℕ) → i < n → take (i * size + size - i * size) (drop (i * size) file) ≡ get_or fs i []
   part_is i h =
       let e : i * size + size - i * size ≡ size = omega arith in
-      ap (λ (m : ℕ). take m (drop (i * size) file)) e ∙ sym (get_d_records size n i file h)
+      ap (λ (m : ℕ). take m (drop (i * size) file)) e ∙ sym (get_or_records size n i file h)
 
   module _ (room : n * size ≤ length file) (up : rising (map id_of (records size used xs)) ≡ true)
       (all : every (λ q. any (λ r. same (id_of r) (id_of q)) (records size used xs)) (records size n file) ≡ true)

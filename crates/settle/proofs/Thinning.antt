@@ -14,7 +14,7 @@ use Rattle.rules.specs.Records.{records, joined, id_of}
 use Rattle.rules.proofs.Records.{Sized, length_records, sized_records, joined_records, records_joined}
 use Rattle.table.specs.Edit.{Moved}
 use Rattle.ids.proofs.Ids.{id32}
-use Rattle.ids.proofs.Records.{get_d_records, record_end, id_at}
+use Rattle.ids.proofs.Records.{get_or_records, record_end, id_at}
 use Rattle.table.proofs.Records.{joined_snoc, sized_at}
 use Rattle.settle.specs.Once.{once_after, once, Kept}
 
@@ -103,7 +103,7 @@ module _ (size used : ℕ) (xs : List ℕ) (room : used * size ≤ length xs) wh
         d = id_of (get_or t.kept (k - 1) [])
 
         ex : take size (drop (i * size) a) ≡ x
-        ex = ap (take size) t.back ∙ sym (get_d_records size used i xs h)
+        ex = ap (take size) t.back ∙ sym (get_or_records size used i xs h)
 
         lx : length x ≡ size
         lx = sized_at size i rs (sized_records size used xs room) (rw length_records h)

@@ -14,7 +14,7 @@ use Rattle.rules.specs.Lists.{keep}
 use Rattle.rules.specs.Records.{records, joined, laid}
 use Rattle.rules.proofs.Records.{length_records}
 use Rattle.mem.specs.Moves.{shifted_down, zeroed}
-use Rattle.ids.proofs.Records.{get_d_records}
+use Rattle.ids.proofs.Records.{get_or_records}
 use Rattle.table.proofs.Records.{joined_append, joined_drop, take_records}
 use Rattle.table.proofs.Keeping.{Keeping, keeping_none, keeping_more, keeping_end, moved_goes}
 
@@ -54,7 +54,7 @@ module _ (stays : List ℕ → Bool) (size used : ℕ) (xs : List ℕ) where
         let qt : q ≤ t = mul-le-mul_right size v.from_le in
         let e : t ≡ q + (t - q) = omega arith in
         ap (take size) (ap (λ (j : ℕ). drop j a) e ∙ sym (drop-drop (t - q) q a) ∙ ap (drop (t - q)) v.so_far.back ∙ drop-drop (t - q) q xs ∙ ap (λ (j : ℕ). drop j xs) (sym e))
-        ∙ sym (get_d_records size used i xs h)
+        ∙ sym (get_or_records size used i xs h)
 
     -- one more that stays
     pub running_on : i < used → stays (take size (drop (i * size) a)) ≡ true → Running k from (i + 1) a
@@ -110,7 +110,7 @@ module _ (stays : List ℕ → Bool) (size used : ℕ) (xs : List ℕ) where
         → i < used → stays (take size (drop (i * size) a)) ≡ false → Running n (i + 1) (i + 1) b
     running_cut n b e d l h goes =
         let g = run_moved n b e d l in
-        let same : take size (drop (i * size) b) ≡ take size (drop (i * size) a) = ap (take size) g.back ∙ sym (get_d_records size used i xs h) ∙ sym (ahead h) in
+        let same : take size (drop (i * size) b) ≡ take size (drop (i * size) a) = ap (take size) g.back ∙ sym (get_or_records size used i xs h) ∙ sym (ahead h) in
         record {
           so_far = keeping_more stays size used n i n b b xs h g (moved_goes stays size n i b (rw same goes)) refl;
           run = sym (ap (λ (r : List (List ℕ)). staying (i + 1) ++ r) (slice_empty (i + 1) rs) ∙ append-nil (staying (i + 1)));

@@ -11,7 +11,7 @@ use Rattle.mem.specs.Be.{be_at}
 use Rattle.ids.specs.declared.Found.{Found}
 use Rattle.ids.proofs.Ids.{Below, id32, cmp_below, cmp_equal, cmp_above}
 use Rattle.ids.proofs.First.{words_below}
-use Rattle.ids.proofs.Records.{length_ids, get_d_ids, record_end}
+use Rattle.ids.proofs.Records.{length_ids, get_or_ids, record_end}
 use Rattle.ids.proofs.Rising.{below_up, below_down, below_at}
 use Rattle.ids.proofs.Search.{find_gap, find_at}
 use borrow.Author.Rules.{rules}
@@ -36,7 +36,7 @@ end : (c : In-loop-lo) → mid c * c.args.size + c.args.size ≤ length c.args.t
 end c = omega (arith, record_end c.args.size c.args.used (mid c) (mid< c))
 
 mid_id : (c : In-loop-lo) → get_or (js c) (mid c) [] ≡ id32 (mid c * c.args.size) c.args.table.now
-mid_id c = get_d_ids c.args.size c.args.used (mid c) c.args.table.now c.requires.le_size.0 (mid< c)
+mid_id c = get_or_ids c.args.size c.args.used (mid c) c.args.table.now c.requires.le_size.0 (mid< c)
 
 -- the middle is below the id, or above it: what that leaves
 lower : (t : In-loop-lo) → Below (get_or (js t) (mid t) []) t.args.id.now → Bracket (js t) t.args.used t.args.id.now (mid t + 1) t.loop-lo.hi

@@ -1,5 +1,5 @@
 use lib.Ieee.{nan}
-use Rattle.lists.proofs.Part.{length_part, get_d_part}
+use Rattle.lists.proofs.Part.{length_part, get_or_part}
 use mathlib.Core.Path.{◌≡◌, refl, sym, ◌∙◌}
 use Prim.Native.Nat.{◌+◌, ◌-◌, ◌*◌, ◌≤◌}
 use native.Mathlib.Omega.{arith}
@@ -17,7 +17,7 @@ loop-i-preserved c =
     let row = part 25 c.args.b c.args.counts.now in
     let p : c.args.b * 25 + 25 ≤ length c.args.counts.now = omega arith in
     let n : length row ≡ 25 = length_part 25 c.args.b c.args.counts.now p in
-    let e : get_or c.args.counts.now (c.args.b * 25 + c.loop-i.i) nan ≡ get_or row c.loop-i.i nan = sym (get_d_part 25 c.args.b c.args.counts.now c.loop-i.i nan c.loop-i-test.true) in
+    let e : get_or c.args.counts.now (c.args.b * 25 + c.loop-i.i) nan ≡ get_or row c.loop-i.i nan = sym (get_or_part 25 c.args.b c.args.counts.now c.loop-i.i nan c.loop-i-test.true) in
     (search rules, c.loop-i.invariant.1, rw (c.loop-i.invariant.2, e) (swept_more _ row c.loop-i.i nan (omega arith) (omega arith)))
 
 pub returns : goal.returns

@@ -1,4 +1,4 @@
--- `codec::buckets::bucket_ok` meets its contract: the three tests are those of `bucket-told`, in its order. Assumes nothing.
+-- `codec::buckets::bucket_ok` meets its contract: the three tests are those of `bucket_told`, in its order. Assumes nothing.
 use mathlib.Core.Path.{◌≡◌, sym, ◌∙◌}
 use mathlib.Core.Bool.{true, false}
 use native.Mathlib.Omega.{arith}
