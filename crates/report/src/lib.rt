@@ -22,6 +22,7 @@ use reader::number;
 pub const PAGE: usize = 2048;
 
 // What is told of a reading: the state and the rates, or why it was refused.
+#[tactic(auto, unfolding(crate::specs::Shown::told, crate::specs::Shown::refusal, crate::specs::Shown::name, crate::specs::Shown::carried, crate::specs::Shown::line))]
 fn tell(
     out: &mut [u8],
     chain: Chain,

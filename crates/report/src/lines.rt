@@ -17,6 +17,7 @@ use premise::{Chain, put_premise};
 use print::{put, put_byte, put_decimal};
 
 // A word and what is told of it.
+#[tactic(auto, unfolding(print::specs::Page::writes, crate::specs::Shown::line))]
 fn put_line(out: &mut [u8], at: usize, word: &[u8], text: &[u8]) -> usize
     ensures { page out.new result ≡ writes (line word.now text.now) (page out.old at) }
 {
@@ -33,6 +34,7 @@ pub(crate) fn put_refused(out: &mut [u8], name: &[u8]) -> usize
 }
 
 // A word and a number.
+#[tactic(auto, unfolding(print::specs::Page::writes, crate::specs::Shown::line))]
 fn put_number(out: &mut [u8], at: usize, word: &[u8], n: u64) -> usize
     ensures { page out.new result ≡ writes (line word.now (decimal n)) (page out.old at) }
 {
@@ -42,6 +44,7 @@ fn put_number(out: &mut [u8], at: usize, word: &[u8], n: u64) -> usize
 }
 
 // The last height or `-`.
+#[tactic(auto, unfolding(crate::specs::Shown::last_text))]
 fn put_last(out: &mut [u8], at: usize, last: Last) -> usize
     ensures { page out.new result ≡ writes (line height (last_text last)) (page out.old at) }
 {
@@ -65,6 +68,7 @@ fn put_state(out: &mut [u8], at: usize, state: State) -> usize
 }
 
 // Puts the line that a file's version is not known.
+#[tactic(auto, unfolding(print::specs::Page::writes, crate::specs::Shown::refusal, crate::specs::Shown::name, crate::specs::Shown::carried, crate::specs::Shown::line))]
 pub(crate) fn put_version(out: &mut [u8], at: usize, v: u32) -> usize
     ensures { page out.new result ≡ writes (refusal (unknown_version v)) (page out.old at) }
 {
@@ -74,6 +78,7 @@ pub(crate) fn put_version(out: &mut [u8], at: usize, v: u32) -> usize
 }
 
 // A rate or `-`.
+#[tactic(auto, unfolding(crate::specs::Rates::carried_rate))]
 fn put_rate(out: &mut [u8], at: usize, e: Estimated) -> usize
     ensures { page out.new result ≡ write (carried_rate (estimate_answer e).carries) (page out.old at) }
 {
