@@ -1,13 +1,9 @@
 -- What is said of a call, from its outcome. Assumes nothing.
 use mathlib.Core.Path.{◌≡◌, refl, sym, ap, ap₂, ◌∙◌}
 use mathlib.Core.Bool.{true}
-use mathlib.Core.List.{[], ◌∷◌}
 use Prim.Native.Nat.{ℕ}
-use types.Run.{OneOf, miss}
-use denote.Enum.Declared.{tag_of}
 use Rattle.kinds.specs.declared.State.{State}
 use Rattle.kinds.specs.declared.ReadAnswer.{ReadAnswer}
-use Rattle.kinds.specs.contracts.ReadAnswer.{the_type}
 use Rattle.kinds.specs.Answers.{Answer, read_answer}
 use Rattle.rules.specs.Memory.{Lent}
 use Rattle.rules.specs.Calls.{Outcome, outcome}
@@ -38,11 +34,11 @@ versioned a v n e p =
     ap (λ (m : ℕ). Reply.Carrying m v) (p ∙ ap (λ (x : ReadAnswer). (read_answer x).number) e) ∙ sym (ap (λ (x : ReadAnswer). reply_of (read_answer x)) e)
 
 -- no other answer of a reading carries anything
-pub bare : (a : ReadAnswer) → OneOf (0 ∷ 1 ∷ 2 ∷ 4 ∷ 5 ∷ []) (tag_of the_type a) → Reply.Number (read_answer a).number ≡ reply_of (read_answer a)
+pub bare : (a : ReadAnswer) → ((v : ℕ) → a ≡ ReadAnswer.UnknownVersion v → ⊥) → Reply.Number (read_answer a).number ≡ reply_of (read_answer a)
 unfolding carried
 bare ReadAnswer.Done h = refl
 bare ReadAnswer.Damaged h = refl
 bare ReadAnswer.BadMagic h = refl
-bare (ReadAnswer.UnknownVersion v) h = absurd (miss (0 ∷ 1 ∷ 2 ∷ 4 ∷ 5 ∷ []) 3 tt h)
+bare (ReadAnswer.UnknownVersion v) h = absurd (h v refl)
 bare ReadAnswer.Corrupt h = refl
 bare ReadAnswer.NoRoom h = refl
