@@ -4,7 +4,7 @@
 ghost use Rattle.std.specs.Prelude.{◌≡◌};
 ghost use Rattle.kinds.specs.Answers.{start_answer};
 ghost use Rattle.rules.specs.Board.{board_of};
-ghost use Rattle.rules.specs.Memory.{lent};
+ghost use Rattle.rules.specs.Slices.{before, after};
 ghost use Rattle.rules.specs.Calls.{outcome, start_call};
 
 use boards::record_size;
@@ -23,8 +23,8 @@ pub fn new(
     recent: &mut [u8],
     on: Horizon,
 ) -> Started
-    ensures { outcome (start_answer result.answer) result.state (lent confirmed.new resolved.new pending.new recent.new)
-        ≡ start_call (board_of on) (lent confirmed.old resolved.old pending.old recent.old) }
+    ensures { outcome (start_answer result.answer) result.state (after confirmed resolved pending recent)
+        ≡ start_call (board_of on) (before confirmed resolved pending recent) }
 {
     let state = State::empty();
     if confirmed.len() < COUNTS {

@@ -4,6 +4,7 @@ use mathlib.Core.List.{map}
 use Prim.Native.Nat.{◌*◌, ◌≤◌, ◌<◌}
 use lib.ListN.{length}
 use native.Mathlib.Omega.{arith}
+use borrow.Author.Rules.{rules}
 use Rattle.rules.specs.Board.{board_of, pending_most}
 use Rattle.rules.specs.Records.{records, id_of}
 use Rattle.rules.proofs.Boards.{board_lawful}
@@ -30,8 +31,8 @@ pub overflow_sub-result : goal.overflow_sub-result
 overflow_sub-result c = omega (arith, (placed (goal.at.overflow_sub-result c).In-At).0)
 
 pub returns-in-At : goal.returns-in-At
-returns-in-At c = let both = removed (board_of c.args.on) (board_lawful c.args.on) _ _ _ _ c.requires.pending_value _ _ c.record_size-size.ensures.value (are_bytes_lem c.remove.new.table (λ i. (c.slice_known-in-At-1.given i).fits)) (at (goal.at.returns-in-At c).In-At) c.remove.ensures in record { value = both.0; pending_after = both.1 }
+returns-in-At c = let both = removed (board_of c.args.on) (board_lawful c.args.on) _ _ _ _ c.requires.pending_value _ _ c.record_size-size.ensures.value (are_bytes_lem c.remove.new.table (λ i. search rules)) (at (goal.at.returns-in-At c).In-At) c.remove.ensures in record { value = both.0; pending_after = both.1 }
 
 pub returns-in-Gap : goal.returns-in-Gap
 returns-in-Gap c =
-    let f = told _ _ _ _ _ c.record_size-size.ensures.value c.find.ensures c.in-Gap.is in let both = unmoved (board_of c.args.on) (board_lawful c.args.on) _ _ _ _ c.requires.pending_value (are_bytes_lem c.args.pending.now (λ i. (c.slice_known-1.given i).fits)) f in record { value = both.0; pending_after = both.1 }
+    let f = told _ _ _ _ _ c.record_size-size.ensures.value c.find.ensures c.in-Gap.is in let both = unmoved (board_of c.args.on) (board_lawful c.args.on) _ _ _ _ c.requires.pending_value (are_bytes_lem c.args.pending.now (λ i. search rules)) f in record { value = both.0; pending_after = both.1 }

@@ -3,6 +3,7 @@ use Prim.Native.Nat.{◌+◌}
 use native.Mathlib.Omega.{arith}
 use lib.ListN.{drop}
 use borrow.Author.Tests.{lt-ltb, le-ltb}
+use borrow.Author.Rules.{rules}
 use Rattle.ids.specs.Search.{cmp}
 use Rattle.ids.proofs.Ids.{id32, cmp_end}
 use Rattle.ids.proofs.First.{step, word_turn}
@@ -15,7 +16,7 @@ told : (c : After-u32_be-y)
     ≡ step c.u32_be-x.result c.u32_be-y.result (cmp (drop (c.loop-i.i + 4) (id32 c.args.p c.args.a.now)) (drop (c.loop-i.i + 4) (id32 c.args.q c.args.b.now)))
 told c =
     c.loop-i.invariant.1
-    ∙ word_turn c.args.a.now c.args.p c.args.b.now c.args.q c.requires.0 c.requires.1 (λ i. (c.shared_slice_known-1.given i).fits) (λ i. (c.shared_slice_known-2-1.given i).fits) c.loop-i.i (omega arith)
+    ∙ word_turn c.args.a.now c.args.p c.args.b.now c.args.q c.requires.0 c.requires.1 (λ i. search rules) (λ i. search rules) c.loop-i.i (omega arith)
     ∙ rw (c.u32_be-x.ensures, c.u32_be-y.ensures)
 
 pub loop-i-init : goal.loop-i-init
