@@ -1,5 +1,5 @@
 -- Three lines.
-use Rattle.std.proofs.Common.{◌≡◌, ◌∙◌, ap}
+use Rattle.std.proofs.Common.{◌∙◌, ap}
 use Rattle.print.specs.Numerals.{decimal}
 use Rattle.print.specs.Page.{writes}
 use Rattle.report.specs.Words.{pending, confirmed}

@@ -1,5 +1,5 @@
 -- A turn tells one column more.
-use Rattle.std.proofs.Common.{◌≡◌, ◌-◌, length}
+use Rattle.std.proofs.Common.{◌-◌}
 use Rattle.print.specs.Page.{page}
 use Rattle.report.specs.Rates.{answered}
 use Rattle.report.proofs.Targets.{Left}
