@@ -21,6 +21,6 @@ returns-in-One c =
 
 pub returns-else-s-lt16 : goal.returns-else-s-lt16
 returns-else-s-lt16 c =
-    let b = are_bytes_lem c.args.s.now (λ i. (c.shared_slice_known-1.given i).fits) in
+    let b = are_bytes_lem c.args.s.now (λ i. (c.type_inv.s i).fits) in
     ap (λ (n : ℕ). eqb n 6) c.number.ensures
     ∙ sym (ap (λ (v : FileVersion). is_read (read_after (version_told v) (drop 12 c.args.s.now))) c.in-Three.is ∙ after_three c.args.s.now (omega arith) b)

@@ -29,7 +29,7 @@ magic_room m = omega arith
 magic_there : (m : Else-m-ne-MAGIC) → same (take 8 m.args.s.now) magic ≡ true
 magic_there m =
     let n : le_at 8 m.args.s.now 0 ≡ 0x5345454645535242 = omega (arith, first_eight (goal.at.Else-m-ne-MAGIC m).After-u64_le-m, m.if-m-ne-MAGIC.false) in
-    sym (is_magic m.args.s.now (magic_room m) (are_bytes_lem m.args.s.now (λ i. (m.shared_slice_known-1.given i).fits))) ∙ eq-eqb _ _ n
+    sym (is_magic m.args.s.now (magic_room m) (are_bytes_lem m.args.s.now (λ i. (m.type_inv.s i).fits))) ∙ eq-eqb _ _ n
 
 pub returns-then-s-lt8 : goal.returns-then-s-lt8
 unfolding header_says begun
@@ -43,7 +43,7 @@ unfolding header_says begun
 returns-then-m-ne-MAGIC c =
     let h : 8 ≤ length c.args.s.now = omega arith in
     let n : le_at 8 c.args.s.now 0 ≡ 0x5345454645535242 → ⊥ = λ e. omega (arith, first_eight (goal.at.returns-then-m-ne-MAGIC c).After-u64_le-m, c.if-m-ne-MAGIC.true) in
-    sym (ap begun (head_other _ c.args.s.now h (sym (is_magic c.args.s.now h (are_bytes_lem c.args.s.now (λ i. (c.shared_slice_known-1.given i).fits))) ∙ ne_eqb _ _ n)))
+    sym (ap begun (head_other _ c.args.s.now h (sym (is_magic c.args.s.now h (are_bytes_lem c.args.s.now (λ i. (c.type_inv.s i).fits))) ∙ ne_eqb _ _ n)))
 
 pub returns-then-s-lt12 : goal.returns-then-s-lt12
 unfolding header_says begun

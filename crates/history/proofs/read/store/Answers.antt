@@ -27,7 +27,7 @@ use Rattle.history.proofs.read.store.Goals as goal
 use Rattle.history.proofs.read.store.Goals.{After-record_size}
 
 bytes : (h : After-record_size) → T (are_bytes h.args.bytes.now)
-bytes h = are_bytes_lem h.args.bytes.now (λ i. (h.shared_slice_known-1.given i).fits)
+bytes h = are_bytes_lem h.args.bytes.now (λ i. (h.type_inv.bytes i).fits)
 
 known : (h : After-record_size) → Held (version_told h.args.version) h.args.bytes.now h.args.last h.args.n h.args.m
 known h = held (version_told h.args.version) (version_lawful h.args.version) h.args.bytes.now h.args.last h.args.n h.args.m (bytes h) h.requires.bytes_value

@@ -27,10 +27,10 @@ known : (s : Start) → Facts (board_of s.args.on) s.args.s (memory s)
 known s = facts _ _ _ s.requires.recent_value
 
 pending_bytes : (r : After-record_size) → T (are_bytes r.args.pending.now)
-pending_bytes r = are_bytes_lem r.args.pending.now (λ i. (r.shared_slice_known-3-1.given i).fits)
+pending_bytes r = are_bytes_lem r.args.pending.now (λ i. (r.type_inv.pending i).fits)
 
 recent_bytes : (r : After-record_size) → T (are_bytes r.args.recent.now)
-recent_bytes r = are_bytes_lem r.args.recent.now (λ i. (r.shared_slice_known-4-1.given i).fits)
+recent_bytes r = are_bytes_lem r.args.recent.now (λ i. (r.type_inv.recent i).fits)
 
 same : (r : After-record_size) → r.record_size-size.result ≡ r.record_size.result
 same r = same_size r.args.version r.args.on _ _ r.record_size.ensures.value r.record_size-size.ensures.value

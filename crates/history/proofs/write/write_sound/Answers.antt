@@ -17,16 +17,16 @@ use Rattle.history.proofs.write.write_sound.Goals as goal
 pub returns-then-out-n : goal.returns-then-out-n
 returns-then-out-n c =
     write_short (version_told c.args.version) (board_of c.args.on) (board_lawful c.args.on) (same_records c.args.version c.args.on) c.args.s _ (facts _ _ _ c.requires)
-    (are_bytes_lem c.args.pending.now (λ i. (c.shared_slice_known-3-1.given i).fits))
-    (are_bytes_lem c.args.recent.now (λ i. (c.shared_slice_known-4-1.given i).fits))
+    (are_bytes_lem c.args.pending.now (λ i. (c.type_inv.pending i).fits))
+    (are_bytes_lem c.args.recent.now (λ i. (c.type_inv.recent i).fits))
     c.requires c.args.out.now c.history_len-n.result c.history_len-n.ensures (omega arith)
 
 pub returns : goal.returns
 returns c =
     ap (λ (o : List ℕ). outcome done c.args.s (output c.history_len-n.result o)) c.encode.ensures
     ∙ write_done (version_told c.args.version) (board_of c.args.on) (board_lawful c.args.on) (same_records c.args.version c.args.on) c.args.s _ (facts _ _ _ c.requires)
-    (are_bytes_lem c.args.pending.now (λ i. (c.shared_slice_known-3-1.given i).fits))
-    (are_bytes_lem c.args.recent.now (λ i. (c.shared_slice_known-4-1.given i).fits))
+    (are_bytes_lem c.args.pending.now (λ i. (c.type_inv.pending i).fits))
+    (are_bytes_lem c.args.recent.now (λ i. (c.type_inv.recent i).fits))
     c.requires c.args.out.now c.history_len-n.result c.history_len-n.ensures (omega arith)
 
 pub history_len-n-requires : goal.history_len-n-requires
