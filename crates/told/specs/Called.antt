@@ -1,7 +1,8 @@
 -- A life of the compiled public calls of a board. `Learnt` is what a caller learns of a call: the toolchain makes it from the call's own `ensures` in crate
 -- `estimator` or `horizon`, of the arguments, the result and the lent slices when they come back. So here nothing is retyped: a contract that says less leads to less.
 -- Assumes nothing.
-use Rattle.std.specs.Prelude.{◌≡◌, true, false, List, [], ◌∷◌, ◌++◌}
+use Rattle.std.specs.Prelude.{ℕ, Float, ◌≡◌, true, false, List, [], ◌∷◌, ◌++◌}
+use Rattle.std.specs.Borrow.{Bor, MutBor}
 use contract.Lifetimes.{Lfts}
 use Rattle.kinds.specs.declared.Horizon.{Horizon}
 use Rattle.kinds.specs.Answers.{start_answer, enter_answer, leave_answer, block_answer, read_answer}
@@ -39,26 +40,26 @@ pub data Called (on : Horizon) (m : Life) : List Ask → Life → Type 0 where
   started : {qs : List Ask} {y : Life} → Called on m qs y → (κs : Lfts 4) (c d x t : _) (r : _) (e : _) → given c d x t ≡ y.held.memory
       → page_of on base_new.Learnt wide_new.Learnt κs (c, (d, (x, (t, tt)))) r e
       → Called on m (qs ++ start ∷ []) (begun true (outcome (start_answer r.answer) r.state (given e.0 e.1.0 e.1.1.0 e.1.1.1.0)) y)
-  entered : {qs : List Ask} {y : Life} → Called on m qs y → (κs : Lfts 2) (x i rate h : _) (r : _) (e : _) → x.now ≡ y.held.memory.pending
+  entered : {qs : List Ask} {y : Life} → Called on m qs y → (κs : Lfts 2) (x : MutBor (List ℕ)) (i : Bor (List ℕ)) (rate h : _) (r : _) (e : _) → x.now ≡ y.held.memory.pending
       → page_of on base_entered.Learnt wide_entered.Learnt κs (y.held.state, (x, (i, (rate, (h, tt))))) r e
       → Called on m (qs ++ change (enter i.now rate h) ∷ [])
       (holding y (noted (enter i.now rate h) (with_table y.held.memory (outcome (enter_answer r.answer) r.state e.1.0.now)) y.held.log))
-  left : {qs : List Ask} {y : Life} → Called on m qs y → (κs : Lfts 2) (x i : _) (r : _) (e : _) → x.now ≡ y.held.memory.pending
+  left : {qs : List Ask} {y : Life} → Called on m qs y → (κs : Lfts 2) (x : MutBor (List ℕ)) (i : Bor (List ℕ)) (r : _) (e : _) → x.now ≡ y.held.memory.pending
       → page_of on base_left.Learnt wide_left.Learnt κs (y.held.state, (x, (i, tt))) r e
       → Called on m (qs ++ change (leave i.now) ∷ [])
       (holding y (noted (leave i.now) (with_table y.held.memory (outcome (leave_answer r.answer) r.state e.1.0.now)) y.held.log))
-  connected : {qs : List Ask} {y : Life} → Called on m qs y → (κs : Lfts 5) (c d x t ids h : _) (r : _) (e : _) → given c d x t ≡ y.held.memory
+  connected : {qs : List Ask} {y : Life} → Called on m qs y → (κs : Lfts 5) (c d x t : _) (ids : Bor (List ℕ)) (h : _) (r : _) (e : _) → given c d x t ≡ y.held.memory
       → page_of on base_connected.Learnt wide_connected.Learnt κs (y.held.state, (c, (d, (x, (t, (ids, (h, tt))))))) r e
       → Called on m (qs ++ change (connect ids.now h) ∷ [])
       (holding y (noted (connect ids.now h) (outcome (block_answer r.answer) r.state (given e.1.0 e.1.1.0 e.1.1.1.0 e.1.1.1.1.0)) y.held.log))
-  estimated : {qs : List Ask} {y : Life} → Called on m qs y → (κs : Lfts 2) (c d target : _) (r : _) (e : _)
+  estimated : {qs : List Ask} {y : Life} → Called on m qs y → (κs : Lfts 2) (c d : Bor (List Float)) (target : _) (r : _) (e : _)
       → c.now ≡ y.held.memory.confirmed → d.now ≡ y.held.memory.resolved
       → page_of on base_estimate.Learnt wide_estimate.Learnt κs (y.held.state, (c, (d, (target, tt)))) r e
       → Called on m (qs ++ estimate target ∷ []) y
-  wrote : {qs : List Ask} {y : Life} → Called on m qs y → (κs : Lfts 5) (c d x t out : _) (r : _) (e : _) → lent c.now d.now x.now t.now ≡ y.held.memory
+  wrote : {qs : List Ask} {y : Life} → Called on m qs y → (κs : Lfts 5) (c d : Bor (List Float)) (x t : Bor (List ℕ)) (out : MutBor (List ℕ)) (r : _) (e : _) → lent c.now d.now x.now t.now ≡ y.held.memory
       → page_of on base_write.Learnt wide_write.Learnt κs (y.held.state, (c, (d, (x, (t, (out, tt)))))) r e
       → Called on m (qs ++ write out.now ∷ []) (goes_on y r.state y.held.memory)
-  was_read : {qs : List Ask} {y : Life} → Called on m qs y → (κs : Lfts 5) (file c d x t : _) (r : _) (e : _) → given c d x t ≡ y.held.memory
+  was_read : {qs : List Ask} {y : Life} → Called on m qs y → (κs : Lfts 5) (file : Bor (List ℕ)) (c d x t : _) (r : _) (e : _) → given c d x t ≡ y.held.memory
       → page_of on base_read.Learnt wide_read.Learnt κs (file, (c, (d, (x, (t, tt))))) r e
       → Called on m (qs ++ read file.now ∷ [])
       (begun false (outcome (read_answer r.answer) r.state (given e.1.0 e.1.1.0 e.1.1.1.0 e.1.1.1.1.0)) y)
