@@ -4,17 +4,28 @@ use mathlib.Core.Bool.{Bool, true, false, ◌&&◌}
 use mathlib.Core.List.{List, [], map}
 use Prim.Native.Nat.{ℕ, ◌+◌, ◌*◌, ◌≤◌, ◌<◌}
 use native.Mathlib.Omega.{arith}
-use borrow.Author.Tests.{leb-true}
+use borrow.Author.Tests.{leb-true, le-leb, lt-leb}
 use lib.Dec.{leb}
 use lib.ListN.{length, get_or, drop}
 use lib.Seq.{slice}
 use Rattle.rules.specs.Lists.{every}
 use Rattle.rules.specs.Ids.{rising}
 use Rattle.rules.specs.Records.{records, id_of, capacity, all_zero, sound_table}
-use Rattle.rules.specs.Board.{in_range, pending_of}
+use Rattle.rules.specs.Ladder.{buckets, last_bucket}
+use Rattle.rules.specs.Counts.{columns}
+use Rattle.rules.specs.Board.{Pending, in_range, pending_of}
 use Rattle.rules.proofs.Records.{and_left, length_records}
 use Rattle.lists.proofs.Lists.{and_true, every_map, every_next, every_end}
 use Rattle.table.proofs.Records.{cap_room}
+
+-- the rules' test of one record, where its bucket is none, and where it is one
+pub no_bucket : (q : Pending) → buckets ≤ q.bucket → in_range q ≡ false
+unfolding in_range
+no_bucket q h = rw (lt-leb q.bucket last_bucket (omega arith))
+
+pub a_bucket : (q : Pending) → q.bucket < buckets → in_range q ≡ leb q.through columns
+unfolding in_range
+a_bucket q h = rw (le-leb q.bucket last_bucket (omega arith))
 
 -- each of these records is in range
 abbrev pub fine : List (List ℕ) → Bool

@@ -39,6 +39,7 @@ fn room_and_zeros(table: &[u8], size: usize, most: usize, used: usize) -> bool
 }
 
 // Whether pending record number `i` has a bucket that there is, and a resolved-through not above the last column.
+#[tactic(auto, using(crate::proofs::Records::no_bucket, crate::proofs::Records::a_bucket))]
 fn one_in_range(table: &[u8], size: usize, used: usize, i: usize) -> bool
     requires { (pending_size ≤ size) × ((i < used) × (used * size ≤ length table.now)) }
     ensures { result ≡ in_range (pending_of (get_or (records size used table.now) i [])) }

