@@ -13,6 +13,7 @@ use std::io;
 use std::rt::Env;
 
 // The chain's height that a word says, of 32 bits; untold where it says none.
+#[tactic(auto, unfolding(crate::specs::Words::chain_at, crate::specs::Words::chain_of))]
 fn chain_of(word: &[u8]) -> Chain
     ensures { result ≡ chain_of word.now }
 {
