@@ -12,8 +12,7 @@ loop-i-init c = (omega arith, (paste-zero c.args.a.now c.args.at c.args.src.now,
 
 pub loop-i-preserved : goal.loop-i-preserved
 loop-i-preserved c =
-    let l = c.loop-i in
-    (
+    let l = c.loop-i in (
       omega arith,
       (
         ap (λ (x : List ℕ). set x (c.args.at + l.i) (get_or c.args.src.now l.i 0)) l.invariant.1.0
@@ -28,5 +27,5 @@ shape_of-a c = c.loop-i.invariant.1.1
 pub returns : goal.returns
 returns c =
     let l = c.loop-i in
-        let e : l.i ≡ length c.args.src.now = omega arith in
+    let e : l.i ≡ length c.args.src.now = omega arith in
     l.invariant.1.0 ∙ rw (e, take-length c.args.src.now) (sym (sets-eq c.args.src.now c.args.a.now c.args.at c.requires))

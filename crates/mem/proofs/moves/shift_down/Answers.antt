@@ -12,8 +12,7 @@ loop-i-init c = (omega arith, (down_none c.args.from c.args.by c.args.a.now, ref
 
 pub loop-i-preserved : goal.loop-i-preserved
 loop-i-preserved c =
-    let l = c.loop-i in
-    (
+    let l = c.loop-i in (
       omega arith,
       (
         ap (λ (x : List ℕ). set x (c.args.from + l.i) (get_or x (c.args.from + c.args.by + l.i) 0)) l.invariant.1.0
@@ -28,5 +27,5 @@ shape_of-a c = c.loop-i.invariant.1.1
 pub returns : goal.returns
 returns c =
     let l = c.loop-i in
-        let e : l.i ≡ c.args.n = omega arith in
+    let e : l.i ≡ c.args.n = omega arith in
     l.invariant.1.0 ∙ ap (λ (n : ℕ). shifted_down c.args.from c.args.by n c.args.a.now) e

@@ -13,7 +13,7 @@ loop-i-init c = ((omega arith, omega arith), (up_none c.args.to c.args.by c.args
 pub loop-i-preserved : goal.loop-i-preserved
 loop-i-preserved c =
     let l = c.loop-i in
-        let e : l.i ≡ l.i - 1 + 1 = omega arith in (
+    let e : l.i ≡ l.i - 1 + 1 = omega arith in (
       (omega arith, omega arith),
       (
         ap (λ (x : List ℕ). set x (l.i - 1 + c.args.by) (get_or x (l.i - 1) 0)) (l.invariant.1.0 ∙ ap (λ (n : ℕ). shifted_up n c.args.to c.args.by c.args.a.now) e)
@@ -28,5 +28,5 @@ shape_of-a c = c.loop-i.invariant.1.1
 pub returns : goal.returns
 returns c =
     let l = c.loop-i in
-        let e : l.i ≡ c.args.from = omega arith in
+    let e : l.i ≡ c.args.from = omega arith in
     l.invariant.1.0 ∙ ap (λ (n : ℕ). shifted_up n c.args.to c.args.by c.args.a.now) e

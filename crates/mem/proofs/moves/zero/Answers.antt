@@ -12,8 +12,7 @@ loop-i-init c = ((omega arith, omega arith), (zeroed_none c.args.from c.args.a.n
 
 pub loop-i-preserved : goal.loop-i-preserved
 loop-i-preserved c =
-    let l = c.loop-i in
-    (
+    let l = c.loop-i in (
       (omega arith, omega arith),
       (
         ap (λ (x : List ℕ). set x l.i 0) l.invariant.1.0 ∙ zeroed_more c.args.from l.i c.args.a.now (omega arith) (omega arith),
@@ -27,5 +26,5 @@ shape_of-a c = c.loop-i.invariant.1.1
 pub returns : goal.returns
 returns c =
     let l = c.loop-i in
-        let e : l.i ≡ c.args.to = omega arith in
+    let e : l.i ≡ c.args.to = omega arith in
     l.invariant.1.0 ∙ ap (λ (n : ℕ). zeroed c.args.from n c.args.a.now) e
