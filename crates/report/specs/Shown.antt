@@ -87,7 +87,7 @@ reach pending recent longest = record { pending = pending; recent = recent; long
 abbrev pub of_show : Reach
 of_show = reach 172 210 65536
 
--- `inspect`: room for 10,000 pending and 75,000 confirmed records, and the bytes of a version_3 file that has a height and so many
+-- `inspect`: room for 10,000 pending and 75,000 confirmed records, and the bytes of a version-3 file that has a height and so many
 abbrev pub of_inspect : Reach
 of_inspect = reach 10000 75000 3197969
 
