@@ -16,15 +16,3 @@ returns c =
 
 pub loop-i-init : goal.loop-i-init
 loop-i-init c = start (omega arith)
-
-pub bounds-s-i : goal.bounds-s-i
-bounds-s-i c = omega (arith, c.loop-i.invariant.long)
-
-pub overflow_add-i : goal.overflow_add-i
-overflow_add-i c = omega (arith, c.loop-i.invariant.long)
-
-pub loop-i-smaller : goal.loop-i-smaller
-loop-i-smaller c = omega (arith, c.loop-i.invariant.long)
-
-pub shape_of-s : goal.shape_of-s
-shape_of-s c = c.loop-i.invariant.long

@@ -1,4 +1,4 @@
-use mathlib.Core.Path.{◌≡◌, refl, sym, ap, ◌∙◌}
+use mathlib.Core.Path.{◌≡◌, sym, ap, ◌∙◌}
 use mathlib.Core.List.{List}
 use Prim.Native.Nat.{ℕ, ◌+◌, ◌-◌}
 use native.Mathlib.Omega.{arith}
@@ -8,9 +8,6 @@ use Rattle.lines.specs.Lines.{text_of}
 use Rattle.gathers.specs.Gathers.{listed}
 use Rattle.gathers.proofs.Gathering.{all_listed, enough, next_listed}
 use Rattle.gathers.proofs.gathers.list_ids.Goals as goal
-
-pub loop-from-init : goal.loop-from-init
-loop-from-init c = (refl, refl)
 
 pub loop-from-preserved : goal.loop-from-preserved
 loop-from-preserved c =

@@ -1,4 +1,4 @@
-use mathlib.Core.Path.{refl, sym, ap, ◌∙◌}
+use mathlib.Core.Path.{sym, ap, ◌∙◌}
 use Prim.Native.Nat.{ℕ, ◌≤◌}
 use native.Mathlib.Omega.{arith}
 use Rattle.lines.specs.Lines.{ids_from}
@@ -11,9 +11,6 @@ onward : (c : Else-not-holds) → c.loop-from.from ≤ c.word_at-w.result.to
 onward c =
     let e = begins _ _ c.word_at-w.result c.word_at-w.ensures.value c.loop-from-test.true in
     omega arith
-
-pub loop-from-init : goal.loop-from-init
-loop-from-init c = refl
 
 pub returns-then-left-eq0 : goal.returns-then-left-eq0
 returns-then-left-eq0 c =

@@ -12,9 +12,6 @@ use Rattle.script.proofs.hex.hex_into.Goals as goal
 pub returns-then-out-n : goal.returns-then-out-n
 returns-then-out-n c = sym (into_short c.args.word.now c.args.out.now c.if-out-n.true)
 
-pub unhex-requires : goal.unhex-requires
-unhex-requires c = (sym c.is_hex.ensures ∙ c.if-is_hex.true, omega arith)
-
 pub returns-then-is_hex : goal.returns-then-is_hex
 returns-then-is_hex c =
     ap (filled (Decoded.Bytes (length c.args.word.now / 2))) c.unhex.ensures

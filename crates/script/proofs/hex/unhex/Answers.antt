@@ -16,9 +16,6 @@ digits c =
     let b = hex_digit c.args.word.now (2 * c.loop-i.i + 1) c.requires.0 (omega arith) in
     (omega arith, omega arith)
 
-pub loop-i-init : goal.loop-i-init
-loop-i-init c = (omega arith, (refl, (refl, refl)))
-
 pub overflow_mul-out : goal.overflow_mul-out
 overflow_mul-out c = let p = digits (goal.at.overflow_mul-out c).After-digit-low in omega (arith, p.0)
 
@@ -40,9 +37,6 @@ loop-i-preserved c =
         ),
       ),
     )
-
-pub shape_of-out : goal.shape_of-out
-shape_of-out c = c.loop-i.invariant.1.1.0
 
 pub returns : goal.returns
 returns c =

@@ -46,12 +46,6 @@ returns-then-most-d-2 c =
     let m = beyond c.args.base c.args.most c.loop-i.n c.wide-d.result (omega arith) (omega arith) c.if-most-d-2.true in
     sym (next (goal.at.returns-then-most-d-2 c).After-wide-d c.if-base-d.false ∙ over c.args.base c.args.most c.args.word.now _ (c.loop-i.i + 1) (omega arith) m)
 
-pub overflow_mul-n : goal.overflow_mul-n
-overflow_mul-n c = let m = fits (goal.at.overflow_mul-n c).Else-most-d-2 in omega arith
-
-pub overflow_add-n : goal.overflow_add-n
-overflow_add-n c = let m = fits (goal.at.overflow_add-n c).Else-most-d-2 in omega arith
-
 pub loop-i-preserved : goal.loop-i-preserved
 loop-i-preserved c = (omega arith, (fits (goal.at.loop-i-preserved c).Else-most-d-2, next (goal.at.loop-i-preserved c).After-wide-d c.if-base-d.false))
 

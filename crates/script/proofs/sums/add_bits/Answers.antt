@@ -1,4 +1,4 @@
-use mathlib.Core.Path.{◌≡◌, refl, sym, ap, ◌∙◌}
+use mathlib.Core.Path.{◌≡◌, sym, ap, ◌∙◌}
 use Prim.Native.Nat.{ℕ, ◌-◌, ◌/◌}
 use native.Mathlib.Omega.{arith}
 use Rattle.rules.specs.Bytes.{bytes}
@@ -6,12 +6,6 @@ use Rattle.script.specs.Sums.{adler}
 use Rattle.script.specs.declared.sums.Sum.{Sum}
 use Rattle.script.proofs.Adler.{adler_bits}
 use Rattle.script.proofs.sums.add_bits.Goals as goal
-
-pub loop-k-init : goal.loop-k-init
-loop-k-init c = ((omega arith, c.requires), refl)
-
-pub add-t-requires : goal.add-t-requires
-add-t-requires c = c.loop-k.invariant.0.1
 
 pub loop-k-preserved : goal.loop-k-preserved
 loop-k-preserved c =

@@ -2,11 +2,8 @@
 -- Assumes nothing.
 use mathlib.Core.Path.{sym, ap, ◌∙◌}
 use lib.Ieee.{binary64, to_bits}
-use Rattle.script.proofs.Adler.{equal_no_nan, unequal_nan, nan_bits_lem}
+use Rattle.script.proofs.Adler.{unequal_nan, nan_bits_lem}
 use Rattle.script.proofs.sums.bits_of.Goals as goal
-
-pub float_to_bits-result : goal.float_to_bits-result
-float_to_bits-result c = equal_no_nan c.args.x c.if-x.true
 
 pub returns : goal.returns
 returns c = nan_bits_lem ∙ sym (ap (to_bits binary64) (unequal_nan c.args.x c.if-x.false))

@@ -1,4 +1,4 @@
-use mathlib.Core.Path.{refl, sym, ap, ◌∙◌}
+use mathlib.Core.Path.{sym, ap, ◌∙◌}
 use Prim.Native.Nat.{◌+◌, ◌*◌}
 use native.Mathlib.Omega.{arith}
 use lib.ListN.{drop}
@@ -7,18 +7,9 @@ use Rattle.script.specs.declared.sums.Sum.{Sum}
 use Rattle.script.proofs.Adler.{adler_next, adler_end}
 use Rattle.script.proofs.sums.sum_bytes.Goals as goal
 
-pub loop-i-init : goal.loop-i-init
-loop-i-init c = ((omega arith, (omega arith, omega arith)), refl)
-
-pub add-t-requires : goal.add-t-requires
-add-t-requires c = c.loop-i.invariant.0.1
-
 pub loop-i-preserved : goal.loop-i-preserved
 loop-i-preserved c =
     ((omega arith, c.add-t.ensures.1), c.loop-i.invariant.1 ∙ adler_next c.loop-i.t c.args.s.now c.loop-i.i (omega arith) ∙ ap (λ (t : Sum). adler t (drop (c.loop-i.i + 1) c.args.s.now)) (sym c.add-t.ensures.0))
-
-pub total-requires : goal.total-requires
-total-requires c = c.loop-i.invariant.0.1
 
 pub returns : goal.returns
 unfolding adler32

@@ -1,9 +1,0 @@
--- `lines::lines::placed` meets its contract.
--- Assumes nothing.
-use Rattle.lines.proofs.lines.placed.Goals as goal
-
-pub returns-then-ok : goal.returns-then-ok
-returns-then-ok c = rw c.if-ok.true
-
-pub returns : goal.returns
-returns c = rw c.if-ok.false
