@@ -6,13 +6,15 @@ use Prim.Native.Nat.{ℕ, ◌+◌, ◌^◌, ◌≤◌, ◌<◌}
 use native.Mathlib.Omega.{arith}
 use lib.Dec.{eqb}
 use lib.ListN.{length, take, drop}
+use Rattle.kinds.specs.declared.Horizon.{Horizon}
 use Rattle.kinds.specs.declared.State.{State}
 use Rattle.kinds.specs.Answers.{done}
 use Rattle.rules.specs.Lists.{count}
 use Rattle.rules.specs.Ids.{Id}
 use Rattle.rules.specs.Counts.{places_of_counts}
 use Rattle.rules.specs.Records.{records, id_of, sound_table, laid}
-use Rattle.rules.specs.Board.{Board, Lawful, Pending, Confirmed, pending_most, confirmed_size, confirmed_most}
+use Rattle.rules.specs.Board.{Board, Lawful, Pending, Confirmed, pending_most, confirmed_size, confirmed_most, board_of}
+use Rattle.rules.proofs.Boards.{board_lawful}
 use Rattle.rules.specs.Estimator.{Estimator, confirm_all}
 use Rattle.rules.specs.Memory.{Lent, lent, pending_records, confirmed_records, confirmed_capacity, lay_confirmed, view, state_of, lay}
 use Rattle.rules.specs.Calls.{outcome, accepted, ids_of}
@@ -45,6 +47,11 @@ use Rattle.confirms.proofs.Tables.{compacted, as_many, merged_told}
 pub nothing_listed : (k : Board) → Lawful k → (B : ℕ) (s : State) (l : Lent) (xs : List ℕ) → Ready k s l → length xs < 32 → outcome done s l ≡ accepted k (confirm_all k B (ids_of xs) (view k s l)) l
 unfolding confirm_all
 nothing_listed k law B s l xs ready h = step_none k law s l ready ∙ ap (λ (ids : List Id). accepted k (confirm_all k B ids (view k s l)) l) (sym (ids_none xs 0 (omega arith)))
+
+-- the same over the board of a horizon, as the check meets it in the code
+pub none_listed : (on : Horizon) (B : ℕ) (s : State) (l : Lent) (xs : List ℕ) → Ready (board_of on) s l → length xs < 32
+    → outcome done s l ≡ accepted (board_of on) (confirm_all (board_of on) B (ids_of xs) (view (board_of on) s l)) l
+none_listed on B s l xs ready h = nothing_listed (board_of on) (board_lawful on) B s l xs ready h
 
 module _ (k : Board) (law : Lawful k) (B : ℕ) (small : B < 256 ^ 4) (s : State) (l : Lent) (ready : Ready k s l) (ids : List Id) (n : ℕ) (size : n ≡ k.table.size)
     (ms rest : List ℕ) (marking : ms ≡ beside id_of (listed ids) (records n s.pending l.pending) ++ rest) (m : Lent) (ns : List ℕ) (settled : AllSettled k B (view k s l) l ms m ns) where

@@ -33,6 +33,7 @@ fn count_new(marks: &[u8], used: usize) -> usize
 }
 
 // Confirms the listed ids at h.
+#[tactic(auto, using(crate::proofs::Together::none_listed))]
 pub fn confirm_all(
     state: State,
     confirmed: &mut [f64],

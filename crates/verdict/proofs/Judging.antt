@@ -96,3 +96,8 @@ module _ (k : Board) (a : Block) where
         -- beside the records that are there, as many places as there are listings
         pub answer_short : s.recent + length a.ids / 32 ≤ confirmed_capacity l.recent → done ≡ says.answer
         answer_short h = answer_done (le-leb wanted (confirmed_capacity l.recent) (omega (arith, held_at_most k (ids_of a.ids) a.height.0 (view k s l), listings, there)))
+
+-- a gap that is too wide, as the check meets it in the code
+pub wide_gap : (k : Board) (s : State) (l : Lent) (ids : List ℕ) (height : Height) → sound k s l ≡ true → length ids % 32 ≡ 0 → widest_gap < gap s.last height
+    → gap_too_wide ≡ (block_call k s l ids height).answer
+wide_gap k s l ids height p q g = answer_gap k (record { state = s; lent = l; ids = ids; height = height }) p q g

@@ -29,6 +29,7 @@ fn gap(last: Last, h: Height) -> Blocks
 }
 
 // The answer of a block: the first refusal, or Done. A list that is no longer than the free places finds room, and is not looked at.
+#[tactic(auto, using(crate::proofs::Judging::wide_gap))]
 pub fn judge_block(
     state: State,
     confirmed: &[f64],

@@ -11,7 +11,7 @@ use Rattle.rules.proofs.Boards.{board_lawful}
 use Rattle.by_id.proofs.ById.{within_bytes}
 use Rattle.ready.proofs.Facts.{pending_sound}
 use Rattle.marks.proofs.Marking.{marks_enough, markable}
-use Rattle.confirms.proofs.Together.{nothing_listed, places_for_all, merge_asks, phases_are}
+use Rattle.confirms.proofs.Together.{places_for_all, merge_asks, phases_are}
 use Rattle.confirms.proofs.confirm_all.Goals as goal
 use Rattle.confirms.proofs.confirm_all.Goals.{After-mark_listed, After-settle_all, Start}
 
@@ -24,9 +24,6 @@ marks_there c =
 
 still_there : (c : After-settle_all) → c.args.state.pending ≤ length c.settle_all.new.marks
 still_there c = omega (arith, c.settle_all.auto.marks, marks_there (goal.at.After-settle_all c).After-mark_listed)
-
-pub returns-then-ids-lt32 : goal.returns-then-ids-lt32
-returns-then-ids-lt32 c = nothing_listed (board_of c.args.on) (board_lawful c.args.on) _ _ _ _ c.requires.ready (omega (arith, c.if-ids-lt32.true))
 
 -- ---- the marks
 pub mark_listed-requires : goal.mark_listed-requires

@@ -1,19 +1,15 @@
-use mathlib.Core.Path.{ap}
 use native.Mathlib.Omega.{arith}
 use lib.Dec.{eqb}
 use borrow.Author.Tests.{eq-eqb, ne_eqb}
 use lib.ListN.{get_or}
-use Rattle.rules.specs.Lists.{bit}
 use Rattle.lists.proofs.Loop.{start, step, stop}
 use Rattle.confirms.proofs.Marked.{mark_next, mark_end}
 use Rattle.confirms.proofs.count_new.Goals as goal
-use Rattle.confirms.proofs.count_new.Goals.{then-marks-i-eq1, else-marks-i-eq1}
 
 pub loop-i-preserved : goal.loop-i-preserved
 loop-i-preserved c =
     let m = get_or c.args.marks.now c.loop-i.i 0 in
-    step _ _ c.if-marks-i-eq1.n (eqb m 1) c.loop-i.invariant c.loop-i-test.true
-    (elim c.if-marks-i-eq1.branch [ then-marks-i-eq1 w ↦ omega (arith, w.n-is, ap bit (eq-eqb m 1 w.if-marks-i-eq1.true)) | else-marks-i-eq1 w ↦ omega (arith, w.n-is, ap bit (ne_eqb m 1 w.if-marks-i-eq1.false)) ])
+    step _ _ _ (eqb m 1) c.loop-i.invariant c.loop-i-test.true (grind (arith, eq-eqb, ne_eqb))
     (mark_next _ _ c.loop-i.i c.loop-i-test.true c.requires)
 
 pub loop-i-init : goal.loop-i-init

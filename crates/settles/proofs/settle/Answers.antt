@@ -39,7 +39,7 @@ count-requires c =
 
 pub returns : goal.returns
 returns c =
-    settled_counted _ _ ((board_of c.args.on).table.read (get_or (records (board_of c.args.on).table.size c.args.used c.args.pending.now) c.args.i [])) _ (its (goal.at.returns c).After-record_size-size) _ _ _ _ _ _ c.renew-was.ensures.value c.renew-was.ensures.recent_after (λ z. omega (arith, c.if-was-eq0.false)) _ _ _
+    settled_counted _ _ ((board_of c.args.on).table.read (get_or (records (board_of c.args.on).table.size c.args.used c.args.pending.now) c.args.i [])) _ (its (goal.at.returns c).After-record_size-size) _ _ _ _ _ _ c.renew-was.ensures.value c.renew-was.ensures.recent_after (λ z. omega arith) _ _ _
     (c.pending_at.ensures.bucket_value ∙ ap (λ (q : Pending). q.bucket) (read_of (goal.at.returns c).After-record_size-size)) (c.pending_at.ensures.result_value ∙ ap (λ (q : Pending). q.entry) (read_of (goal.at.returns c).After-record_size-size)) (c.pending_at.ensures.through_value ∙ ap (λ (q : Pending). q.through) (read_of (goal.at.returns c).After-record_size-size)) _ _ c.count.ensures.confirmed_after c.count.ensures.resolved_after
 
 pub overflow_mul-from : goal.overflow_mul-from

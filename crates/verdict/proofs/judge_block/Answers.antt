@@ -1,19 +1,17 @@
 -- `verdict::judge_block` meets its contract: each of its answers is the definition's, by the laws of `Judging`. Assumes nothing.
 use mathlib.Core.Path.{◌≡◌, sym, ◌∙◌}
 use mathlib.Core.Bool.{true}
-use Prim.Native.Nat.{◌≤◌}
 use native.Mathlib.Omega.{arith}
 use lib.Dec.{leb}
 use Rattle.rules.specs.Board.{Board, board_of}
 use Rattle.rules.specs.Memory.{lent, confirmed_capacity, sound}
-use Rattle.rules.specs.Calls.{gap, widest_gap}
-use Rattle.verdict.proofs.Judging.{Block, wanted, pending_sound, recent_sound, recent_within, answer_damaged, answer_list, answer_gap, answer_short, answer_full, answer_done}
+use Rattle.verdict.proofs.Judging.{Block, wanted, pending_sound, recent_sound, recent_within, answer_damaged, answer_list, answer_short, answer_full, answer_done}
 use Rattle.rules.proofs.Boards.{board_lawful}
 use Rattle.rules.proofs.Bytes.{are_bytes_lem}
 use Rattle.rules.proofs.Sound.{view_well}
 use Rattle.room.proofs.Judging.{room_is}
 use Rattle.verdict.proofs.judge_block.Goals as goal
-use Rattle.verdict.proofs.judge_block.Goals.{After-finds_room, Else-not-judge_memory, Else-skipped-gt-MAX_GAP, Start}
+use Rattle.verdict.proofs.judge_block.Goals.{After-finds_room, Else-not-judge_memory, Start}
 
 abbrev given : Start → Block
 given s =
@@ -25,9 +23,6 @@ board s = board_of s.args.on
 -- past the first test the memory is sound
 is_sound : (c : Else-not-judge_memory) → sound (board (goal.at.Else-not-judge_memory c).Start) (given (goal.at.Else-not-judge_memory c).Start).state (given (goal.at.Else-not-judge_memory c).Start).lent ≡ true
 is_sound c = sym c.judge_memory.ensures ∙ c.if-not-judge_memory.false
-
-narrow : (c : Else-skipped-gt-MAX_GAP) → gap (given (goal.at.Else-skipped-gt-MAX_GAP c).Start).state.last (given (goal.at.Else-skipped-gt-MAX_GAP c).Start).height ≤ widest_gap
-narrow c = omega (arith, c.gap-skipped.ensures, c.if-skipped-gt-MAX_GAP.false)
 
 -- what it answers, of the definition's number
 found : (c : After-finds_room) → c.finds_room.result ≡ leb (wanted (board (goal.at.After-finds_room c).Start) (given (goal.at.After-finds_room c).Start)) (confirmed_capacity (given (goal.at.After-finds_room c).Start).lent.recent)
@@ -43,10 +38,6 @@ returns-then-not-judge_memory c =
 pub returns-then-ids-ne0 : goal.returns-then-ids-ne0
 returns-then-ids-ne0 c = answer_list (board (goal.at.returns-then-ids-ne0 c).Start) (given (goal.at.returns-then-ids-ne0 c).Start) (is_sound (goal.at.returns-then-ids-ne0 c).Else-not-judge_memory) c.if-ids-ne0.true
 
-pub returns-then-skipped-gt-MAX_GAP : goal.returns-then-skipped-gt-MAX_GAP
-returns-then-skipped-gt-MAX_GAP c =
-    answer_gap (board (goal.at.returns-then-skipped-gt-MAX_GAP c).Start) (given (goal.at.returns-then-skipped-gt-MAX_GAP c).Start) (is_sound (goal.at.returns-then-skipped-gt-MAX_GAP c).Else-not-judge_memory) c.if-ids-ne0.false (omega (arith, c.gap-skipped.ensures, c.if-skipped-gt-MAX_GAP.true))
-
 pub overflow_sub-free : goal.overflow_sub-free
 overflow_sub-free c =
     omega (arith, c.capacity.ensures, recent_within (board (goal.at.overflow_sub-free c).Start) (given (goal.at.overflow_sub-free c).Start).state (given (goal.at.overflow_sub-free c).Start).lent (is_sound (goal.at.overflow_sub-free c).Else-not-judge_memory))
@@ -54,15 +45,15 @@ overflow_sub-free c =
 -- a list that is no longer than the free places
 pub returns-then-ids-free : goal.returns-then-ids-free
 returns-then-ids-free c =
-    answer_short (board (goal.at.returns-then-ids-free c).Start) (given (goal.at.returns-then-ids-free c).Start) (is_sound (goal.at.returns-then-ids-free c).Else-not-judge_memory) c.if-ids-ne0.false (narrow (goal.at.returns-then-ids-free c).Else-skipped-gt-MAX_GAP) (omega (arith, c.capacity.ensures, c.if-ids-free.true, recent_within (board (goal.at.returns-then-ids-free c).Start) (given (goal.at.returns-then-ids-free c).Start).state (given (goal.at.returns-then-ids-free c).Start).lent (is_sound (goal.at.returns-then-ids-free c).Else-not-judge_memory)))
+    answer_short (board (goal.at.returns-then-ids-free c).Start) (given (goal.at.returns-then-ids-free c).Start) (is_sound (goal.at.returns-then-ids-free c).Else-not-judge_memory) c.if-ids-ne0.false (omega (arith, c.gap-skipped.ensures)) (omega (arith, c.capacity.ensures, c.if-ids-free.true, recent_within (board (goal.at.returns-then-ids-free c).Start) (given (goal.at.returns-then-ids-free c).Start).state (given (goal.at.returns-then-ids-free c).Start).lent (is_sound (goal.at.returns-then-ids-free c).Else-not-judge_memory)))
 
 pub finds_room-requires : goal.finds_room-requires
 finds_room-requires c = record { pending_value = pending_sound (board (goal.at.finds_room-requires c).Start) (given (goal.at.finds_room-requires c).Start).state (given (goal.at.finds_room-requires c).Start).lent (is_sound (goal.at.finds_room-requires c).Else-not-judge_memory); recent_value = recent_sound (board (goal.at.finds_room-requires c).Start) (given (goal.at.finds_room-requires c).Start).state (given (goal.at.finds_room-requires c).Start).lent (is_sound (goal.at.finds_room-requires c).Else-not-judge_memory) }
 
 pub returns-then-not-finds_room : goal.returns-then-not-finds_room
 returns-then-not-finds_room c =
-    answer_full (board (goal.at.returns-then-not-finds_room c).Start) (given (goal.at.returns-then-not-finds_room c).Start) (is_sound (goal.at.returns-then-not-finds_room c).Else-not-judge_memory) c.if-ids-ne0.false (narrow (goal.at.returns-then-not-finds_room c).Else-skipped-gt-MAX_GAP) (sym (found (goal.at.returns-then-not-finds_room c).After-finds_room) ∙ c.if-not-finds_room.true)
+    answer_full (board (goal.at.returns-then-not-finds_room c).Start) (given (goal.at.returns-then-not-finds_room c).Start) (is_sound (goal.at.returns-then-not-finds_room c).Else-not-judge_memory) c.if-ids-ne0.false (omega (arith, c.gap-skipped.ensures)) (sym (found (goal.at.returns-then-not-finds_room c).After-finds_room) ∙ c.if-not-finds_room.true)
 
 pub returns : goal.returns
 returns c =
-    answer_done (board (goal.at.returns c).Start) (given (goal.at.returns c).Start) (is_sound (goal.at.returns c).Else-not-judge_memory) c.if-ids-ne0.false (narrow (goal.at.returns c).Else-skipped-gt-MAX_GAP) (sym (found (goal.at.returns c).After-finds_room) ∙ c.if-not-finds_room.false)
+    answer_done (board (goal.at.returns c).Start) (given (goal.at.returns c).Start) (is_sound (goal.at.returns c).Else-not-judge_memory) c.if-ids-ne0.false (omega (arith, c.gap-skipped.ensures)) (sym (found (goal.at.returns c).After-finds_room) ∙ c.if-not-finds_room.false)
