@@ -56,7 +56,7 @@ fn told_chain(rt: &impl Env) -> Chain {
 
 // Reads the file, and prints what it tells.
 fn inspect(rt: HostRuntime, chain: Chain) -> io::Result<()> {
-    if !views::inspect(rt.alloc(), &mut rt.reader(), &rt, chain)? {
+    if !views::inspect(&mut rt.reader(), &rt, chain)? {
         eprintln!(rt; "inspect: the output is lost")?;
     }
     Ok(())

@@ -3,14 +3,13 @@
 // `run`: line by line. `asks`: what changes nothing. `says`: what is written. `parts`: numbers and slices cut to what there is.
 #![tactic(auto)]
 
-ghost use Rattle.std.specs.Prelude.{◌≡◌, length, IfOk};
+ghost use Rattle.std.specs.Prelude.{◌≡◌, length};
 ghost use Rattle.std.specs.Io.{ReadsAtMost};
 
 use page::{
     MOST_COUNTS, MOST_HISTORY, MOST_PENDING, MOST_RECENT, MOST_SCRIPT, MOST_WIDE_PENDING,
     MOST_WIDE_RECENT,
 };
-use std::alloc::{AllocError, Global};
 use std::io;
 use std::io::Read;
 
@@ -20,31 +19,31 @@ mod run;
 mod says;
 
 // Zeros for a script, and one byte more, by which a longer one is known. The `ensures` of these functions give only the length, which lending needs.
-fn script_zeros(alloc: Global) -> Result<Vec<u8>, AllocError>
-    ensures { IfOk result (λ v. 2097153 ≡ length v.items) }
+fn script_zeros() -> [u8; MOST_SCRIPT + 1]
+    ensures { 2097153 ≡ length result }
 {
-    vec![in alloc; 0u8; MOST_SCRIPT + 1]
+    [0u8; MOST_SCRIPT + 1]
 }
 
 // Zeros for the pending records of both boards.
-fn pending_zeros(alloc: Global) -> Result<Vec<u8>, AllocError>
-    ensures { IfOk result (λ v. 484200 ≡ length v.items) }
+fn pending_zeros() -> [u8; MOST_PENDING + MOST_WIDE_PENDING]
+    ensures { 484200 ≡ length result }
 {
-    vec![in alloc; 0u8; MOST_PENDING + MOST_WIDE_PENDING]
+    [0u8; MOST_PENDING + MOST_WIDE_PENDING]
 }
 
 // Zeros for their confirmed records.
-fn recent_zeros(alloc: Global) -> Result<Vec<u8>, AllocError>
-    ensures { IfOk result (λ v. 792200 ≡ length v.items) }
+fn recent_zeros() -> [u8; MOST_RECENT + MOST_WIDE_RECENT]
+    ensures { 792200 ≡ length result }
 {
-    vec![in alloc; 0u8; MOST_RECENT + MOST_WIDE_RECENT]
+    [0u8; MOST_RECENT + MOST_WIDE_RECENT]
 }
 
 // Zeros for a history.
-fn history_zeros(alloc: Global) -> Result<Vec<u8>, AllocError>
-    ensures { IfOk result (λ v. 1400000 ≡ length v.items) }
+fn history_zeros() -> [u8; MOST_HISTORY]
+    ensures { 1400000 ≡ length result }
 {
-    vec![in alloc; 0u8; MOST_HISTORY]
+    [0u8; MOST_HISTORY]
 }
 
 // Reads until the buffer is full or the input ends; how many bytes were read.
@@ -64,17 +63,17 @@ fn read_full(input: &mut impl Read, buf: &mut [u8]) -> io::Result<usize>
 
 // Reads the script, lends the memory, and runs it.
 fn main(rt: HostRuntime) -> io::Result<()> {
-    let mut script = script_zeros(rt.alloc())?;
+    let mut script = script_zeros();
     let n = read_full(&mut rt.reader(), &mut script)?;
     if MOST_SCRIPT < n {
         return println!(rt; "bad line 0");
     }
-    let mut pending = pending_zeros(rt.alloc())?;
-    let mut recent = recent_zeros(rt.alloc())?;
+    let mut pending = pending_zeros();
+    let mut recent = recent_zeros();
     let mut confirmed = [0.0f64; 2 * MOST_COUNTS];
     let mut resolved = [0.0f64; 2 * MOST_COUNTS];
-    let mut buffer = history_zeros(rt.alloc())?;
-    let mut kept = history_zeros(rt.alloc())?;
+    let mut buffer = history_zeros();
+    let mut kept = history_zeros();
     run::run(
         &rt,
         &script[..n],

@@ -5,7 +5,7 @@ use std::io;
 
 // Reads the file, and prints what it tells.
 fn main(rt: HostRuntime) -> io::Result<()> {
-    if !views::show(rt.alloc(), &mut rt.reader(), &rt)? {
+    if !views::show(&mut rt.reader(), &rt)? {
         eprintln!(rt; "show: the output is lost")?;
     }
     Ok(())

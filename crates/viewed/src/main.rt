@@ -15,14 +15,14 @@ fn opened(rt: &HostRuntime, name: &str) -> io::Result<File> {
 // What `show` prints of a file.
 fn shown(rt: &HostRuntime, name: &str) -> io::Result<()> {
     let mut input = opened(rt, name)?;
-    views::show(rt.alloc(), &mut input, rt)?;
+    views::show(&mut input, rt)?;
     Ok(())
 }
 
 // What `inspect` prints of a file.
 fn inspected(rt: &HostRuntime, name: &str, chain: Chain) -> io::Result<()> {
     let mut input = opened(rt, name)?;
-    views::inspect(rt.alloc(), &mut input, rt, chain)?;
+    views::inspect(&mut input, rt, chain)?;
     Ok(())
 }
 

@@ -1,8 +1,8 @@
 // What the programs do: a history is read from a reader, and what it tells is written to an output. The buffer stands in a proved signature: it has one byte more
-// than the longest file, by which a longer one is known. The tables are on the heap.
+// than the longest file, by which a longer one is known.
 #![tactic(auto)]
 
-ghost use Rattle.std.specs.Prelude.{◌<◌, ◌≡◌, length, take, IfOk};
+ghost use Rattle.std.specs.Prelude.{◌<◌, ◌≡◌, length, take};
 ghost use Rattle.io.specs.Counts.{IsPrefixLen};
 ghost use Rattle.kinds.specs.declared.Horizon.{Horizon};
 ghost use Rattle.print.specs.Page.{page};
@@ -13,7 +13,6 @@ use codec::numbers::take;
 use kinds::{CONFIRMED_SIZE, Horizon, PENDING_SIZE};
 use premise::Chain;
 use report::{PAGE, named_by, report};
-use std::alloc::{AllocError, Global};
 use std::io;
 use std::io::{Print, Read};
 
@@ -66,14 +65,13 @@ pub fn show_text(
 }
 
 // Reads a history, and writes what `show` prints of it; whether all was written. (No contract can say what is read or written.)
-pub fn show(alloc: Global, input: &mut impl Read, output: &impl Print) -> io::Result<bool> {
-    let mut file = show_zeros(alloc)?;
+pub fn show(input: &mut impl Read, output: &impl Print) -> io::Result<bool> {
+    let mut file = show_zeros();
     let n = read_full(input, &mut file)?;
-    let file = <&[u8; SHOW_BUFFER]>::try_from(file.as_slice()).unwrap();
     let mut pending = [0u8; SHOW_PENDING];
     let mut recent = [0u8; SHOW_RECENT];
     let mut out = [0u8; PAGE];
-    let k = show_text(file, n, &mut pending, &mut recent, &mut out);
+    let k = show_text(&file, n, &mut pending, &mut recent, &mut out);
     Ok(output.write_all(&out[..k]).is_ok())
 }
 
@@ -109,46 +107,38 @@ pub fn inspect_text(
 }
 
 // Reads a history, and writes what `inspect` prints of it beside a chain; whether all was written.
-pub fn inspect(
-    alloc: Global,
-    input: &mut impl Read,
-    output: &impl Print,
-    chain: Chain,
-) -> io::Result<bool> {
-    let mut file = inspect_zeros(alloc)?;
+pub fn inspect(input: &mut impl Read, output: &impl Print, chain: Chain) -> io::Result<bool> {
+    let mut file = inspect_zeros();
     let n = read_full(input, &mut file)?;
-    let file = <&[u8; INSPECT_BUFFER]>::try_from(file.as_slice()).unwrap();
-    let mut pending = pending_zeros(alloc)?;
-    let pending = <&mut [u8; INSPECT_PENDING]>::try_from(pending.as_mut_slice()).unwrap();
-    let mut recent = recent_zeros(alloc)?;
-    let recent = <&mut [u8; INSPECT_RECENT]>::try_from(recent.as_mut_slice()).unwrap();
+    let mut pending = pending_zeros();
+    let mut recent = recent_zeros();
     let mut out = [0u8; PAGE];
-    let k = inspect_text(file, n, chain, pending, recent, &mut out);
+    let k = inspect_text(&file, n, chain, &mut pending, &mut recent, &mut out);
     Ok(output.write_all(&out[..k]).is_ok())
 }
 
-// ---- zeros, each an array's on the heap. The `ensures` of these functions give only the length, which lending needs.
+// ---- zeros. The `ensures` of these functions give only the length, which lending needs.
 
-fn show_zeros(alloc: Global) -> Result<Vec<u8>, AllocError>
-    ensures { IfOk result (λ v. 65537 ≡ length v.items) }
+fn show_zeros() -> [u8; SHOW_BUFFER]
+    ensures { 65537 ≡ length result }
 {
-    vec![in alloc; 0u8; SHOW_BUFFER]
+    [0u8; SHOW_BUFFER]
 }
 
-fn inspect_zeros(alloc: Global) -> Result<Vec<u8>, AllocError>
-    ensures { IfOk result (λ v. 3197970 ≡ length v.items) }
+fn inspect_zeros() -> [u8; INSPECT_BUFFER]
+    ensures { 3197970 ≡ length result }
 {
-    vec![in alloc; 0u8; INSPECT_BUFFER]
+    [0u8; INSPECT_BUFFER]
 }
 
-fn pending_zeros(alloc: Global) -> Result<Vec<u8>, AllocError>
-    ensures { IfOk result (λ v. 440000 ≡ length v.items) }
+fn pending_zeros() -> [u8; INSPECT_PENDING]
+    ensures { 440000 ≡ length result }
 {
-    vec![in alloc; 0u8; INSPECT_PENDING]
+    [0u8; INSPECT_PENDING]
 }
 
-fn recent_zeros(alloc: Global) -> Result<Vec<u8>, AllocError>
-    ensures { IfOk result (λ v. 2700000 ≡ length v.items) }
+fn recent_zeros() -> [u8; INSPECT_RECENT]
+    ensures { 2700000 ≡ length result }
 {
-    vec![in alloc; 0u8; INSPECT_RECENT]
+    [0u8; INSPECT_RECENT]
 }
