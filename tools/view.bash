@@ -62,7 +62,7 @@ if [ ! -x "$program" ] || changed; then build; fi
 
 # ---- the run
 [ -z "$file" ] || exec <"$file"
-text=$("$top/tools/x86-64" "$program" ${words[@]+"${words[@]}"}) || die "the program ended with status $? (it needs a stack of 8 MB: ulimit -s)"
+text=$("$top/tools/x86-64" "$program" ${words[@]+"${words[@]}"}) || die "the program ended with status $? (a read failed, or it needs a stack of 8 MB: ulimit -s)"
 [ -n "$text" ] || die "the program printed nothing"
 printf '%s\n' "$text" 2>/dev/null || { echo "$name: the output is lost" >&2; exit 1; }
 case $text in
