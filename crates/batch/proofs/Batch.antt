@@ -3,7 +3,7 @@
 use mathlib.Core.Path.{◌≡◌, refl, sym, ap, subst, ◌∙◌}
 use mathlib.Core.Bool.{Bool, true, false, ◌&&◌, cond}
 use mathlib.Core.List.{List, [], ◌∷◌}
-use mathlib.Core.Option.{Option, none, some}
+use Rattle.std.specs.Prelude.{Option, None, Some}
 use Prim.Native.Nat.{ℕ}
 use lib.Dec.{eqb}
 use Rattle.rules.specs.Lists.{any, keep}
@@ -36,15 +36,15 @@ batch_idle k B mark s e f = rw (e, f, none_raised B s.recent)
 
 -- the pending record of i, if there is one, is the only one that the mark of i finds
 data Sought (i : Id) (rs : List Pending) : Option Pending → Type 0 where
-  missing : marked (λ j. same j i) rs ≡ [] → any (λ r. same r.id i) rs ≡ false → Sought i rs none
-  only : {r : Pending} → marked (λ j. same j i) rs ≡ r ∷ [] → r.id ≡ i → is_pending i rs ≡ true → Sought i rs (some r)
+  missing : marked (λ j. same j i) rs ≡ [] → any (λ r. same r.id i) rs ≡ false → Sought i rs None
+  only : {r : Pending} → marked (λ j. same j i) rs ≡ r ∷ [] → r.id ≡ i → is_pending i rs ≡ true → Sought i rs (Some r)
 
 sought : (i : Id) {rs : List Pending} → Up (λ r. r.id) rs → Sought i rs (find i rs)
 unfolding find marked keep is_pending any
 sought i end = missing refl refl
 sought i (step {r} {rs} a u) = go (same r.id i) refl (find i rs) (sought i u)
   where
-    go : (t : Bool) → same r.id i ≡ t → (f : Option Pending) → Sought i rs f → Sought i (r ∷ rs) (cond t (some r) f)
+    go : (t : Bool) → same r.id i ≡ t → (f : Option Pending) → Sought i rs f → Sought i (r ∷ rs) (cond t (Some r) f)
     go true e f s =
         let q : r.id ≡ i = same_eq r.id i e in
         let no : marked (λ j. same j i) rs ≡ [] = keep_absent (λ r. same r.id i) rs (above_absent (λ r. r.id) i (subst (λ (j : Id). All (λ p. below j p.id ≡ true) rs) q a)) in

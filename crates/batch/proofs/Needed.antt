@@ -3,11 +3,11 @@
 use mathlib.Core.Path.{◌≡◌, refl, sym, ap, ap₂, ◌∙◌}
 use mathlib.Core.Bool.{Bool, true, false, not, ◌&&◌, ◌||◌, cond, and-true, and-false}
 use mathlib.Core.List.{List, [], ◌∷◌}
-use mathlib.Core.Option.{Option, none, some}
+use Rattle.std.specs.Prelude.{Option, None, Some}
 use Prim.Native.Nat.{ℕ, suc, ◌+◌, ◌≤◌}
 use native.Mathlib.Omega.{arith}
 use lib.ListN.{length}
-use Rattle.kinds.specs.declared.Last.{Last}
+use Rattle.kinds.specs.Last.{Last}
 use Rattle.rules.specs.Lists.{bit, count, any}
 use Rattle.rules.specs.Ids.{Id, same, below, dropped, placed}
 use Rattle.rules.specs.Board.{Board, Pending, Confirmed}
@@ -35,15 +35,15 @@ record Confirming (i : Id) (s t : Estimator) : Type 0 where
 
 -- there is something
 abbrev found : Option Pending → Bool
-found none = false
-found (some r) = true
+found None = false
+found (Some r) = true
 
 pending_found : (i : Id) (rs : List Pending) → is_pending i rs ≡ found (find i rs)
 unfolding is_pending any find
 pending_found i [] = refl
 pending_found i (r ∷ rs) = go (same r.id i) (pending_found i rs)
   where
-    go : (t : Bool) → is_pending i rs ≡ found (find i rs) → (t || is_pending i rs) ≡ found (cond t (some r) (find i rs))
+    go : (t : Bool) → is_pending i rs ≡ found (find i rs) → (t || is_pending i rs) ≡ found (cond t (Some r) (find i rs))
     go true h = refl
     go false h = h
 
@@ -75,14 +75,14 @@ confirming k B i s u = go (holds i B s.recent) refl (find i s.pending) (pending_
           others = λ j d. refl;
           rises = u;
         }
-    go false e none g =
+    go false e None g =
         record {
           pending = sym (dropped_absent (λ r. r.id) i s.pending g);
           recent = rw (g, and-false) (omega arith);
           others = λ j d. refl;
           rises = u;
         }
-    go false e (some r) g =
+    go false e (Some r) g =
         record {
           pending = refl;
           recent = rw g (omega (arith, more, one, left, bits (is_confirmed i s.recent)));

@@ -9,8 +9,8 @@ use native.Mathlib.Omega.{arith}
 use lib.Dec.{leb, ltb}
 use borrow.Author.Tests.{leb-true, le-leb, ltb-false, lt-ltb, le-ltb}
 use Rattle.kinds.specs.declared.Height.{Height}
-use Rattle.kinds.specs.declared.Last.{Last}
-use Rattle.kinds.specs.declared.Last.TheVariants.{Nothing, At}
+use Rattle.kinds.specs.Last.{Last}
+use Rattle.std.specs.Prelude.{None, Some}
 use Rattle.rules.specs.Lists.{count, keep}
 use Rattle.rules.specs.Ids.{Id}
 use Rattle.rules.specs.Counts.{columns}
@@ -79,22 +79,22 @@ pending_after k L s (suc n) =
 
 module _ (L : Height) (B : ℕ) where
   -- none is skipped
-  none_skipped : B - suc L.0 ≡ 0 → skips (At L) B ≡ false
+  none_skipped : B - suc L.0 ≡ 0 → skips (Some L) B ≡ false
   unfolding skips
   none_skipped q = let h : B ≤ suc L.0 = omega arith in rw le-ltb
 
   -- some are, and B - 1 is the last of them
-  some_skipped : (n : ℕ) → B - suc L.0 ≡ suc n → (skips (At L) B ≡ true) × (L.0 + suc n ≡ B - 1)
+  some_skipped : (n : ℕ) → B - suc L.0 ≡ suc n → (skips (Some L) B ≡ true) × (L.0 + suc n ≡ B - 1)
   unfolding skips
   some_skipped n q = let h : suc L.0 < B = omega arith in (rw lt-ltb, omega arith)
 
 -- the confirmed records that stay are left
 pub skipped_recent : (k : Board) (last : Last) (B : ℕ) (s : Estimator) → (skip_heights k last B s).recent ≡ keep (stays last B) s.recent
 unfolding skip_heights advance_heights stays skips
-skipped_recent k Nothing B s = sym (keep_all s.recent)
-skipped_recent k (At L) B s = go (B - suc L.0) refl
+skipped_recent k None B s = sym (keep_all s.recent)
+skipped_recent k (Some L) B s = go (B - suc L.0) refl
   where
-    go : (n : ℕ) → B - suc L.0 ≡ n → (advance_heights k L.0 n s).recent ≡ keep (stays (At L) B) s.recent
+    go : (n : ℕ) → B - suc L.0 ≡ n → (advance_heights k L.0 n s).recent ≡ keep (stays (Some L) B) s.recent
     go zero q = sym (keep_all s.recent) ∙ ap (λ (p : Confirmed → Bool). keep p s.recent) (fun_ext (λ c. rw (none_skipped L B q)))
     go (suc n) q = let e = some_skipped L B n q in recent_after k L.0 s n ∙ ap (λ (p : Confirmed → Bool). keep p s.recent) (fun_ext (λ c. rw (e.0, e.1)))
 
@@ -102,14 +102,14 @@ skipped_recent k (At L) B s = go (B - suc L.0) refl
 pub skipped_pending : (k : Board) (last : Last) (B : ℕ) (s : Estimator) (p : Id → Bool)
     → count (λ r. p r.id) (skip_heights k last B s).pending ≡ count (λ r. lasts k last B r && p r.id) s.pending
 unfolding skip_heights advance_heights lasts skips
-skipped_pending k Nothing B s p = refl
-skipped_pending k (At L) B s p = go (B - suc L.0) refl
+skipped_pending k None B s p = refl
+skipped_pending k (Some L) B s p = go (B - suc L.0) refl
   where
-    go : (n : ℕ) → B - suc L.0 ≡ n → count (λ r. p r.id) (advance_heights k L.0 n s).pending ≡ count (λ r. lasts k (At L) B r && p r.id) s.pending
-    go zero q = count_ext (λ r. p r.id) (λ r. lasts k (At L) B r && p r.id) (λ r. rw (none_skipped L B q)) s.pending
+    go : (n : ℕ) → B - suc L.0 ≡ n → count (λ r. p r.id) (advance_heights k L.0 n s).pending ≡ count (λ r. lasts k (Some L) B r && p r.id) s.pending
+    go zero q = count_ext (λ r. p r.id) (λ r. lasts k (Some L) B r && p r.id) (λ r. rw (none_skipped L B q)) s.pending
     go (suc n) q =
         let e = some_skipped L B n q in
         ap (count (λ r. p r.id)) (pending_after k L.0 s n)
         ∙ count_keep (λ r. p r.id) waiting (map (moved k (L.0 + suc n)) s.pending)
         ∙ count_map (λ r. waiting r && p r.id) (moved k (L.0 + suc n)) s.pending
-        ∙ count_ext (λ r. waiting (moved k (L.0 + suc n) r) && p r.id) (λ r. lasts k (At L) B r && p r.id) (λ r. rw (e.0, e.1)) s.pending
+        ∙ count_ext (λ r. waiting (moved k (L.0 + suc n) r) && p r.id) (λ r. lasts k (Some L) B r && p r.id) (λ r. rw (e.0, e.1)) s.pending

@@ -1,7 +1,6 @@
 -- How many confirmed records there will be once all listed ids are in, told from the tables as they stand before the block. Assumes nothing.
-use Rattle.std.specs.Prelude.{ℕ, suc, ◌+◌, ◌-◌, max, Bool, false, not, ◌&&◌, ◌||◌, List, leb, ltb}
-use Rattle.kinds.specs.declared.Last.{Last}
-use Rattle.kinds.specs.declared.Last.TheVariants.{Nothing, At}
+use Rattle.std.specs.Prelude.{ℕ, suc, ◌+◌, ◌-◌, max, Bool, false, not, ◌&&◌, ◌||◌, List, leb, ltb, None, Some}
+use Rattle.kinds.specs.Last.{Last}
 use Rattle.rules.specs.Lists.{count, any}
 use Rattle.rules.specs.Ids.{Id, same}
 use Rattle.rules.specs.Counts.{columns}
@@ -14,8 +13,8 @@ listed ids i = any (same i) ids
 
 -- there are skipped heights; the last of them is B - 1
 unfoldable pub skips : Last → ℕ → Bool
-skips Nothing B = false
-skips (At L) B = ltb (suc L.0) B
+skips None B = false
+skips (Some L) B = ltb (suc L.0) B
 
 -- a confirmed record stays through them
 unfoldable pub stays : Last → ℕ → Confirmed → Bool

@@ -1,6 +1,6 @@
 -- The number that the lookup answers tells a bucket from none: every bucket is below 142. Assumes nothing.
 use mathlib.Core.Path.{◌≡◌, refl, ap}
-use mathlib.Core.Option.{Option, some}
+use Rattle.std.specs.Prelude.{Option, Some}
 use Prim.Native.Nat.{ℕ}
 use native.Mathlib.Omega.{arith}
 use Rattle.rules.specs.Ladder.{bucket_for}
@@ -11,7 +11,7 @@ told_apart : {x y : ℕ} {o p : Option ℕ} → LookedUp x o → LookedUp y p �
 told_apart (under_all f) (under_all g) e = refl
 told_apart (under_all f) (in_bucket b l m n) e = absurd (omega arith)
 told_apart (in_bucket b l m n) (under_all g) e = absurd (omega arith)
-told_apart (in_bucket b l m n) (in_bucket c r s t) e = ap some e
+told_apart (in_bucket b l m n) (in_bucket c r s t) e = ap Some e
 
 -- the number of what the lookup answers
 pub numbered : (x : ℕ) (o : Option ℕ) → o ≡ bucket_for x → bucket_number o ≡ izr_bucket_index_for_rate x

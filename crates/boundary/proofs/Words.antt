@@ -8,8 +8,8 @@ use borrow.Author.Tests.{ltb-true, leb-true, eqb-true, lt-ltb, le-leb}
 use lib.Dec.{leb, ltb, eqb, lit<}
 use lib.ListN.{length, get_or, set, drop}
 use lib.Seq.{sets-eq}
-use Rattle.kinds.specs.declared.Last.{Last}
-use Rattle.kinds.specs.declared.Last.TheVariants.{Nothing, At}
+use Rattle.kinds.specs.Last.{Last}
+use Rattle.std.specs.Prelude.{None, Some}
 use Rattle.kinds.specs.declared.State.{State}
 use Rattle.rules.proofs.Records.{and_left, and_right}
 use Rattle.boundary.specs.Words.{holds_last, last_in, holds_state, state_in, flag_of, height_of, put_state, WordsPromise}
@@ -61,16 +61,16 @@ unfolding put_state state_in last_in
 back s ws = go s.last
   where
     go : (l : Last) → ◌≡◌ {A = State} (record { last = last_in (flag_of l) (height_of l); pending = s.pending; recent = s.recent }) (record { last = l; pending = s.pending; recent = s.recent })
-    go Nothing = refl
-    go (At h) = refl
+    go None = refl
+    go (Some h) = refl
 
 held : (s : State) (ws : List ℕ) → height_of s.last < 2 ^ 32 → holds_state (put_state s ws) ≡ true
 unfolding put_state holds_state holds_last
 held s ws h = rw (le-leb 4 (length (put_state s ws)) (omega arith), go s.last h)
   where
     go : (l : Last) → height_of l < 2 ^ 32 → holds_last (flag_of l) (height_of l) ≡ true
-    go Nothing h = refl
-    go (At b) h = lt-ltb b.0 (2 ^ 32) h
+    go None h = refl
+    go (Some b) h = lt-ltb b.0 (2 ^ 32) h
 
 pub words : WordsPromise
 words = record { own = own; back = back; held = held }

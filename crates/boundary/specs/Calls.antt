@@ -1,7 +1,6 @@
 -- The calls of the C ABI, on the board that a horizon names: for each the answer's number and all that is lent, afterwards. They are the calls of rules and
 -- format over a state in words, and the history has the board's own version. Assumes nothing.
-use Rattle.std.specs.Prelude.{◌≡◌, ℕ, Bool, ◌&&◌, cond, List, [], ◌∷◌, leb, eqb, length, get_or, set, Float}
-use Rattle.std.proofs.Math.Option.{Option, none, some}
+use Rattle.std.specs.Prelude.{◌≡◌, ℕ, Bool, ◌&&◌, cond, List, [], ◌∷◌, leb, eqb, length, get_or, set, Float, Option, None, Some}
 use Rattle.kinds.specs.declared.Horizon.{Horizon}
 use Rattle.kinds.specs.Answers.{Answer}
 use Rattle.rules.specs.Ladder.{bucket_for}
@@ -24,8 +23,8 @@ no_bucket = 142
 
 -- a bucket's number, or that one for none
 abbrev pub bucket_number : Option ℕ → ℕ
-bucket_number none = no_bucket
-bucket_number (some b) = b
+bucket_number None = no_bucket
+bucket_number (Some b) = b
 
 -- Bucket lookup.
 unfoldable pub izr_bucket_index_for_rate : ℕ → ℕ

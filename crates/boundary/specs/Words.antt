@@ -1,8 +1,7 @@
 -- The state in four words: whether there is a last height (1 or 0), the height (0 where there is none), and how many pending and confirmed records are used.
 -- Assumes nothing.
-use Rattle.std.specs.Prelude.{◌≡◌, ℕ, ◌^◌, ◌<◌, Bool, true, ◌&&◌, cond, List, ◌∷◌, leb, ltb, eqb, length, get_or, drop}
-use Rattle.kinds.specs.declared.Last.{Last}
-use Rattle.kinds.specs.declared.Last.TheVariants.{Nothing, At}
+use Rattle.std.specs.Prelude.{◌≡◌, ℕ, ◌^◌, ◌<◌, Bool, true, ◌&&◌, cond, List, ◌∷◌, leb, ltb, eqb, length, get_or, drop, None, Some}
+use Rattle.kinds.specs.Last.{Last}
 use Rattle.kinds.specs.declared.State.{State}
 
 -- the two words are a last height: 0 and 0, or 1 and a height
@@ -11,7 +10,7 @@ holds_last flag height = cond (eqb flag 0) (eqb height 0) (eqb flag 1 && ltb hei
 
 -- the last height that the two words are
 unfoldable pub last_in : ℕ → ℕ → Last
-last_in flag height = cond (eqb flag 0) Nothing (At (record { 0 = height }))
+last_in flag height = cond (eqb flag 0) None (Some (record { 0 = height }))
 
 -- the words hold a state
 unfoldable pub holds_state : List ℕ → Bool
@@ -23,13 +22,13 @@ state_in ws = record { last = last_in (get_or ws 0 0) (get_or ws 1 0); pending =
 
 -- whether there is a last height
 abbrev pub flag_of : Last → ℕ
-flag_of Nothing = 0
-flag_of (At h) = 1
+flag_of None = 0
+flag_of (Some h) = 1
 
 -- the height, or 0
 abbrev pub height_of : Last → ℕ
-height_of Nothing = 0
-height_of (At h) = h.0
+height_of None = 0
+height_of (Some h) = h.0
 
 -- the first four words become the state's; anything after them stays
 unfoldable pub put_state : State → List ℕ → List ℕ

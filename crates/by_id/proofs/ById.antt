@@ -1,4 +1,5 @@
 -- Records by their id: what a search of one table tells, and what an edit of it leaves, which are the rules' records, laid. Assumes nothing.
+use Rattle.std.specs.Prelude.{Ok, Err}
 use mathlib.Core.Path.{◌≡◌, sym, ap, subst, ◌∙◌}
 use mathlib.Core.Bool.{true, false}
 use mathlib.Core.List.{List, [], map}
@@ -18,8 +19,7 @@ use Rattle.rules.proofs.Memory.{confirmed_kept, own}
 use Rattle.ids.specs.Search.{find_in}
 use Rattle.table.specs.Edit.{remove_at}
 use Rattle.table.specs.Fields.{with_field}
-use Rattle.ids.specs.declared.Found.{Found}
-use Rattle.ids.specs.declared.Found.TheVariants.{At, Gap}
+use Rattle.ids.specs.Search.{Found}
 use Rattle.table.proofs.Fields.{length_with_field}
 use Rattle.ids.proofs.Records.{length_ids, record_end, id_at}
 use Rattle.table.proofs.Records.{sized_remove, sized_set, sized_at}
@@ -44,10 +44,10 @@ pub told : (n m used : ℕ) (xs : List ℕ) (i : Id) {r o : Found} → n ≡ m �
 told n m used xs i q f e = ap (λ (x : ℕ). find_in i (map id_of (records x used xs))) (sym q) ∙ sym f ∙ e
 
 -- a record that is found is a used one, and a place that is found is among them or after them
-at_used : (size used n : ℕ) (xs : List ℕ) (i : Id) → find_in i (map id_of (records size used xs)) ≡ At n → n < used
+at_used : (size used n : ℕ) (xs : List ℕ) (i : Id) → find_in i (map id_of (records size used xs)) ≡ Ok n → n < used
 at_used size used n xs i f = let t = at_told i (map id_of (records size used xs)) n f in omega (arith, t.within, length_ids size used xs)
 
-pub gap_used : (size used n : ℕ) (xs : List ℕ) (i : Id) → find_in i (map id_of (records size used xs)) ≡ Gap n → n ≤ used
+pub gap_used : (size used n : ℕ) (xs : List ℕ) (i : Id) → find_in i (map id_of (records size used xs)) ≡ Err n → n ≤ used
 gap_used size used n xs i f = let t = gap_told i (map id_of (records size used xs)) n f in omega (arith, t.within, length_ids size used xs)
 
 -- the records are within the bytes
@@ -55,7 +55,7 @@ pub within_bytes : (n m most used : ℕ) (xs : List ℕ) → n ≡ m → sound_t
 within_bytes n m most used xs q s = subst (λ (x : ℕ). used * x ≤ length xs) (sym q) (sound_room m most used xs (sound_told m most used xs s))
 
 -- what reading or changing the record that is found asks
-pub in_table : (n m most used j : ℕ) (xs : List ℕ) (i : Id) → n ≡ m → sound_table m most used xs ≡ true → find_in i (map id_of (records m used xs)) ≡ At j → (j < used) × (used * n ≤ length xs)
+pub in_table : (n m most used j : ℕ) (xs : List ℕ) (i : Id) → n ≡ m → sound_table m most used xs ≡ true → find_in i (map id_of (records m used xs)) ≡ Ok j → (j < used) × (used * n ≤ length xs)
 in_table n m most used j xs i q s f = (at_used m used j xs i f, within_bytes n m most used xs q s)
 
 -- the id of record number i stands within the bytes
@@ -73,16 +73,16 @@ lent_id k law n used i xs q h l =
     ∙ sym (law.named (get_or (records k.table.size used xs) i []) ∙ ap (λ (z : ℕ). id_of (get_or (records z used xs) i [])) (sym q) ∙ id_at n used i xs h l)
 
 module _ (k : Board) (law : Lawful k) (i : Id) (used n : ℕ) (xs : List ℕ) (s : sound_table k.table.size pending_most used xs ≡ true) where
-  pub there : find_in i (map id_of (records k.table.size used xs)) ≡ At n → true ≡ is_pending i (pending_records k used xs)
+  pub there : find_in i (map id_of (records k.table.size used xs)) ≡ Ok n → true ≡ is_pending i (pending_records k used xs)
   unfolding pending_records
   there f = sym (pending_there k.table.read law.named i n (records k.table.size used xs) f)
 
-  pub missing : find_in i (map id_of (records k.table.size used xs)) ≡ Gap n → false ≡ is_pending i (pending_records k used xs)
+  pub missing : find_in i (map id_of (records k.table.size used xs)) ≡ Err n → false ≡ is_pending i (pending_records k used xs)
   unfolding pending_records
   missing f = sym (pending_missing k.table.read law.named i n (records k.table.size used xs) (sound_told _ _ used xs s).rise f)
 
   -- the record of i goes
-  pub removed : (z : ℕ) (ys : List ℕ) → z ≡ k.table.size → T (are_bytes ys) → find_in i (map id_of (records k.table.size used xs)) ≡ At n → ys ≡ laid z used (remove_at n (records z used xs)) xs
+  pub removed : (z : ℕ) (ys : List ℕ) → z ≡ k.table.size → T (are_bytes ys) → find_in i (map id_of (records k.table.size used xs)) ≡ Ok n → ys ≡ laid z used (remove_at n (records z used xs)) xs
       → (used - 1 ≡ length (without i (pending_records k used xs))) × (ys ≡ lay_pending k (without i (pending_records k used xs)) xs)
   unfolding pending_records lay_pending remove_at
   removed z ys q b f r =
@@ -96,7 +96,7 @@ module _ (k : Board) (law : Lawful k) (i : Id) (used n : ℕ) (xs : List ℕ) (s
       (pending_without k.table.read law.named i n rs g.rise f) (sym fewer) (r ∙ ap (λ (x : ℕ). laid x used (remove_at n (records x used xs)) xs) q)
 
   -- where there is no record of i, none goes
-  pub unmoved : T (are_bytes xs) → find_in i (map id_of (records k.table.size used xs)) ≡ Gap n
+  pub unmoved : T (are_bytes xs) → find_in i (map id_of (records k.table.size used xs)) ≡ Err n
       → (used ≡ length (without i (pending_records k used xs))) × (xs ≡ lay_pending k (without i (pending_records k used xs)) xs)
   unfolding pending_records lay_pending is_pending
   unmoved b f =
@@ -107,17 +107,17 @@ module _ (k : Board) (law : Lawful k) (i : Id) (used n : ℕ) (xs : List ℕ) (s
 -- ---- the confirmed table
 
 module _ (i : Id) (used n : ℕ) (xs : List ℕ) (s : sound_table confirmed_size confirmed_most used xs ≡ true) (h : ℕ) where
-  pub held : find_in i (map id_of (records confirmed_size used xs)) ≡ At n → (old : ℕ) → old ≡ (confirmed_of (get_or (records confirmed_size used xs) n [])).height
+  pub held : find_in i (map id_of (records confirmed_size used xs)) ≡ Ok n → (old : ℕ) → old ≡ (confirmed_of (get_or (records confirmed_size used xs) n [])).height
       → eqb old h ≡ holds i h (confirmed_records used xs)
   unfolding confirmed_records
   held f old e = rw e (sym (confirmed_held i n (records confirmed_size used xs) (sound_told _ _ used xs s).rise h f))
 
-  pub not_held : find_in i (map id_of (records confirmed_size used xs)) ≡ Gap n → false ≡ holds i h (confirmed_records used xs)
+  pub not_held : find_in i (map id_of (records confirmed_size used xs)) ≡ Err n → false ≡ holds i h (confirmed_records used xs)
   unfolding confirmed_records
   not_held f = sym (confirmed_not_held i n (records confirmed_size used xs) (sound_told _ _ used xs s).rise h f)
 
   -- another height in the record of i
-  pub noted_again : (ys : List ℕ) → T (are_bytes ys) → h < 256 ^ 4 → find_in i (map id_of (records confirmed_size used xs)) ≡ At n
+  pub noted_again : (ys : List ℕ) → T (are_bytes ys) → h < 256 ^ 4 → find_in i (map id_of (records confirmed_size used xs)) ≡ Ok n
       → ys ≡ laid confirmed_size used (set (records confirmed_size used xs) n (with_field 32 h (get_or (records confirmed_size used xs) n []))) xs
       → ys ≡ lay_confirmed (become i h (confirmed_records used xs)) xs
   unfolding confirmed_records lay_confirmed

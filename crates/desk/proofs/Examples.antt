@@ -6,7 +6,7 @@ use mathlib.Core.List.{List, [], ◌∷◌, ◌++◌}
 use lib.ListN.{replicate}
 use lib.Ieee.{nan, inf, of_bits}
 use Rattle.kinds.specs.declared.Horizon.{Horizon}
-use Rattle.kinds.specs.declared.Last.{Last}
+use Rattle.kinds.specs.Last.{Last}
 use Rattle.kinds.specs.declared.State.{State}
 use Rattle.rules.specs.Counts.{nought}
 use Rattle.rules.specs.Memory.{Lent, lent}
@@ -23,7 +23,7 @@ use Rattle.desk.specs.Desk.{silent, in_pending, operation_does, line_does}
 
 -- the state before each line
 abbrev run : State
-run = record { last = Last.At (record { 0 = 7 }); pending = 1; recent = 2 }
+run = record { last = Some (record { 0 = 7 }); pending = 1; recent = 2 }
 
 -- what is lent before it: one confirmed and two resolved counts, three bytes and two
 abbrev little : Lent
@@ -66,8 +66,8 @@ counts = refl
 -- all is zero; a last height is told plus 1
 others : does Operation.Lend 3 2 1 [] ∷ does Operation.State 0 5 6 [] ∷ does Operation.State 1 5 6 [] ∷ does Operation.Sum 0 0 0 [] ∷ does Operation.Board 1 0 0 [] ∷ does Operation.Unfit 0 0 0 [] ∷ []
     ≡ did (silent true run) (lent (nought ∷ []) (nought ∷ nought ∷ []) (0 ∷ 0 ∷ 0 ∷ []) (0 ∷ 0 ∷ []))
-    ∷ did (silent true (record { last = Last.Nothing; pending = 5; recent = 6 })) little
-    ∷ did (silent true (record { last = Last.At (record { 0 = 0 }); pending = 5; recent = 6 })) little
+    ∷ did (silent true (record { last = None; pending = 5; recent = 6 })) little
+    ∷ did (silent true (record { last = Some (record { 0 = 0 }); pending = 5; recent = 6 })) little
     ∷ did (silent true run) little
     ∷ did (silent true run) little
     ∷ did (silent false run) little

@@ -2,7 +2,7 @@
 use Rattle.std.specs.Prelude.{ℕ, ◌-◌, ◌%◌, Bool, true, cond, List, [], ◌∷◌, ◌++◌, eqb, leb, length, drop, replicate}
 use Rattle.kinds.specs.declared.Height.{Height}
 use Rattle.kinds.specs.declared.Horizon.{Horizon}
-use Rattle.kinds.specs.declared.Last.{Last}
+use Rattle.kinds.specs.Last.{Last}
 use Rattle.kinds.specs.declared.State.{State}
 use Rattle.kinds.specs.Answers.{Answer}
 use Rattle.rules.specs.Board.{board_of}
@@ -40,7 +40,7 @@ height_of n = record { 0 = n % 4294967296 }
 
 -- a last height, told plus 1, or 0 for none
 abbrev pub last_of : ℕ → Last
-last_of n = cond (eqb n 0) Last.Nothing (Last.At (height_of (n - 1)))
+last_of n = cond (eqb n 0) None (Some (height_of (n - 1)))
 
 -- `state LAST P C`: the state becomes this
 abbrev pub state_of : Line → State

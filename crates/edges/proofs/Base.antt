@@ -5,7 +5,7 @@ use lib.IntN.{pos}
 use lib.ListN.{replicate}
 use lib.Ieee.{Float, nan, inf, fin}
 use mathlib.Core.Bool.{true}
-use Rattle.kinds.specs.declared.Last.TheVariants.{Nothing}
+use Rattle.std.specs.Prelude.{None}
 use Rattle.rules.specs.Counts.{columns, decimal, nought, one, no_counts}
 use Rattle.rules.specs.Board.{base}
 use Rattle.rules.specs.Memory.{lent}
@@ -23,19 +23,19 @@ high n = id n ++ (255 ∷ 255 ∷ 255 ∷ 255 ∷ [])
 unfoldable pub edges : List Edge
 edges =
     -- block judges all: each count, each table
-    says (connects (state Nothing 0 0) (lent (first_count minus_one) no_counts [] []) [] 101) 1 []
-    ∷ says (connects (state Nothing 0 0) (lent no_counts (first_count (inf true)) [] []) [] 101) 1 []
-    ∷ says (connects (state Nothing 0 0) (lent no_counts (first_count nan) [] []) [] 101) 1 []
-    ∷ says (connects (state Nothing 0 0) (lent (first_count (fin true 0 (pos 0))) no_counts [] []) [] 101) 0 []
-    ∷ says (connects (state Nothing 1 0) (memory (pending 1 142 0) []) [] 101) 1 []
-    ∷ says (connects (state Nothing 0 1) (memory [] (confirmed 1 5)) [] 101) 0 []
-    ∷ says (connects (state Nothing 0 2) (memory [] (confirmed 1 5)) [] 101) 1 []
+    says (connects (state None 0 0) (lent (first_count minus_one) no_counts [] []) [] 101) 1 []
+    ∷ says (connects (state None 0 0) (lent no_counts (first_count (inf true)) [] []) [] 101) 1 []
+    ∷ says (connects (state None 0 0) (lent no_counts (first_count nan) [] []) [] 101) 1 []
+    ∷ says (connects (state None 0 0) (lent (first_count (fin true 0 (pos 0))) no_counts [] []) [] 101) 0 []
+    ∷ says (connects (state None 1 0) (memory (pending 1 142 0) []) [] 101) 1 []
+    ∷ says (connects (state None 0 1) (memory [] (confirmed 1 5)) [] 101) 0 []
+    ∷ says (connects (state None 0 2) (memory [] (confirmed 1 5)) [] 101) 1 []
     -- the confirmed table as the pending one: an id twice, ids that fall, an unused place not zero
-    ∷ says (connects (state Nothing 0 2) (memory [] (confirmed 1 5 ++ confirmed 1 5)) [] 101) 1 []
-    ∷ says (connects (state Nothing 0 2) (memory [] (confirmed 2 5 ++ confirmed 1 5)) [] 101) 1 []
-    ∷ says (connects (state Nothing 0 1) (memory [] (confirmed 1 5 ++ confirmed 2 5)) [] 101) 1 []
+    ∷ says (connects (state None 0 2) (memory [] (confirmed 1 5 ++ confirmed 1 5)) [] 101) 1 []
+    ∷ says (connects (state None 0 2) (memory [] (confirmed 2 5 ++ confirmed 1 5)) [] 101) 1 []
+    ∷ says (connects (state None 0 1) (memory [] (confirmed 1 5 ++ confirmed 2 5)) [] 101) 1 []
     -- 5 before 6; 6 before 7; 7 where more confirmed records would be held than there are places
-    ∷ says (connects (state Nothing 1 0) one_pending (0 ∷ id 1) 101) 5 []
+    ∷ says (connects (state None 1 0) one_pending (0 ∷ id 1) 101) 5 []
     ∷ says (connects (state (at 100) 1 0) one_pending (0 ∷ id 1) 9999) 5 []
     ∷ says (connects (state (at 100) 1 1) (memory (late 1 0) (confirmed 2 255)) (0 ∷ id 1) 101) 5 []
     ∷ says (connects (state (at 100) 1 1) (memory (late 1 0) (high 2)) (id 1) 4197) 6 []
@@ -51,7 +51,7 @@ edges =
     -- without skipped heights nothing is pruned: at the next height, at the first block, at one that repeats the last height or falls
     ∷ says (connects (state (at 200) 1 1) (memory (late 1 0) (confirmed 2 100)) (id 1) 201) 7 []
     ∷ says (connects (state (at 200) 1 1) (memory (late 1 0) (confirmed 2 100)) (id 1) 202) 0 []
-    ∷ says (connects (state Nothing 1 1) (memory (late 1 0) (confirmed 2 100)) (id 1) 202) 7 []
+    ∷ says (connects (state None 1 1) (memory (late 1 0) (confirmed 2 100)) (id 1) 202) 7 []
     ∷ says (connects (state (at 200) 1 1) (memory (late 1 0) (confirmed 2 100)) (id 1) 200) 7 []
     ∷ says (connects (state (at 200) 1 1) (memory (late 1 0) (confirmed 2 100)) (id 1) 150) 7 []
     -- one that expires in them needs no room: entered at 100 it goes at 125, so before a block at 126 after 101, and not before one at 125
@@ -61,7 +61,7 @@ edges =
     -- resolved-through 25 goes at the next height, which must be a skipped one
     ∷ says (connects (state (at 100) 1 1) (memory (pending 1 33 25) (confirmed 2 200)) (id 1) 101) 7 []
     ∷ says (connects (state (at 100) 1 1) (memory (pending 1 33 25) (confirmed 2 200)) (id 1) 102) 0 []
-    ∷ says (connects (state Nothing 1 1) (memory (pending 1 33 25) (confirmed 2 200)) (id 1) 102) 7 []
+    ∷ says (connects (state None 1 1) (memory (pending 1 33 25) (confirmed 2 200)) (id 1) 102) 7 []
     ∷ leaves_tables (state (at 100) 1 1) (memory (pending 1 33 25) (confirmed 2 200)) (id 1) 102 (zeros 44 ++ (7 ∷ 7 ∷ 7 ∷ [])) (confirmed 2 200 ++ (9 ∷ [])) 0 1
     -- exactly B: the pending record goes uncounted, no decay; bytes beyond the capacities stay
     ∷ leaves_tables (state (at 101) 1 1) (memory (pending 1 33 0 ++ zeros 44) (confirmed 1 101 ++ zeros 36)) (id 1) 101 (zeros 88 ++ (7 ∷ 7 ∷ 7 ∷ [])) (confirmed 1 101 ++ zeros 36 ++ (9 ∷ [])) 0 1

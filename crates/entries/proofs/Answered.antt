@@ -1,6 +1,7 @@
 -- Enter and leave over plain lists: the answers of the code, test by test, are the definitions'. An enter at the floor or above searches a sound table for the
 -- id: where the search ends at a record the id is pending, and where it ends in a gap it is not. A leave counts what is left: as many records as before where
 -- the id was not pending. What either leaves is the rules' records, laid. Assumes nothing.
+use Rattle.std.specs.Prelude.{Ok, Err}
 use mathlib.Core.Path.{◌≡◌, refl, sym, ap, ap₂, ◌∙◌}
 use mathlib.Core.Bool.{Bool, true, false, not, ◌||◌, cond}
 use mathlib.Core.List.{List, [], ◌∷◌, map}
@@ -31,8 +32,7 @@ use Rattle.rules.proofs.Sound.{pending_id}
 use Rattle.rules.proofs.Memory.{pending_table, pending_own}
 use Rattle.ids.specs.Search.{find_in}
 use Rattle.table.specs.Edit.{insert_at}
-use Rattle.ids.specs.declared.Found.{Found}
-use Rattle.ids.specs.declared.Found.TheVariants.{At, Gap}
+use Rattle.ids.specs.Search.{Found}
 use Rattle.ids.proofs.Records.{record_end}
 use Rattle.table.proofs.Records.{sized_insert}
 use Rattle.table.proofs.Sound.{sound_told, sound_room}
@@ -102,10 +102,10 @@ module _ (k : Board) (law : Lawful k) (a : Given) where
     table_sound : sound_table k.table.size pending_most s.pending xs ≡ true
     table_sound = pending_table k s.pending xs p
 
-    is_there : (n : ℕ) → Ends (At n) → is_pending a.id rs ≡ true
+    is_there : (n : ℕ) → Ends (Ok n) → is_pending a.id rs ≡ true
     is_there n f = sym (there k law a.id s.pending n xs table_sound f)
 
-    is_missing : (n : ℕ) → Ends (Gap n) → is_pending a.id rs ≡ false
+    is_missing : (n : ℕ) → Ends (Err n) → is_pending a.id rs ≡ false
     is_missing n f = sym (missing k law a.id s.pending n xs table_sound f)
 
     -- ---- leave
@@ -134,11 +134,11 @@ module _ (k : Board) (law : Lawful k) (a : Given) where
     enter_low rate h e = sym (rw (p, e))
 
     module _ (rate : FeeRate) (h : Height) (high : ltb rate.0 floor ≡ false) where
-      pub enter_there : (n : ℕ) → Ends (At n) → outcome already_pending s xs ≡ enter_call k s xs a.id rate h
+      pub enter_there : (n : ℕ) → Ends (Ok n) → outcome already_pending s xs ≡ enter_call k s xs a.id rate h
       unfolding enter_call
       enter_there n f = sym (rw (p, high, is_there n f))
 
-      module _ (n : ℕ) (f : Ends (Gap n)) where
+      module _ (n : ℕ) (f : Ends (Err n)) where
         pub enter_full : s.pending ≡ pending_capacity k xs → outcome pending_full s xs ≡ enter_call k s xs a.id rate h
         unfolding enter_call
         enter_full e = sym (rw (p, high, is_missing n f, eq-eqb _ _ e))

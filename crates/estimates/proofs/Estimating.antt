@@ -1,7 +1,7 @@
 -- The estimate over plain lists: each answer is the definition's. Assumes nothing.
 use mathlib.Core.Path.{◌≡◌, refl, sym, ap, ◌∙◌}
 use mathlib.Core.Bool.{true, false}
-use mathlib.Core.Option.{Option, none, some}
+use Rattle.std.specs.Prelude.{Option, None, Some}
 use Prim.Native.Nat.{ℕ, ◌≤◌}
 use borrow.Author.Tests.{leb-true, eq-eqb, ne_eqb}
 use lib.ListN.{length}
@@ -20,8 +20,8 @@ use Rattle.scan.specs.Sums.{estimated}
 -- none or a rate, as the enum's case and as the document's answer
 same_answer : (o : Option ℕ) → estimate_answer (estimated o) ≡ rate_answer o
 unfolding estimated rate_answer
-same_answer none = refl
-same_answer (some r) = refl
+same_answer None = refl
+same_answer (Some r) = refl
 
 -- sound counts fill their places
 pub many : (xs : Counts) → sound_counts xs ≡ true → places_of_counts ≤ length xs

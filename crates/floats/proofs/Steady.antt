@@ -1,11 +1,10 @@
 -- Counts stay counts, finite and not below 0, under every step of document 01 on a board whose factor is above 0 and at most 1. Assumes nothing.
 use mathlib.Core.Bool.{Bool, true, false, cond}
 use mathlib.Core.List.{List, [], ◌∷◌}
-use mathlib.Core.Option.{Option, none, some}
+use Rattle.std.specs.Prelude.{Option, None, Some}
 use Prim.Native.Nat.{ℕ, zero, suc, ◌+◌, ◌-◌, ◌*◌}
 use lib.Dec.{leb, ltb}
-use Rattle.kinds.specs.declared.Last.{Last}
-use Rattle.kinds.specs.declared.Last.TheVariants.{Nothing, At}
+use Rattle.kinds.specs.Last.{Last}
 use Rattle.rules.proofs.All.{All}
 use Rattle.rules.specs.Ids.{Id}
 use Rattle.rules.specs.Counts.{places_of_counts}
@@ -22,8 +21,8 @@ pub record Steady (e : Estimator) : Type 0 where
 module _ (k : Board) (d : Factor k.decay) where
   steady_confirmation : (B : ℕ) (i : Id) (f : Option Pending) (e : Estimator) → Steady e → Steady (record_confirmation k B i f e)
   unfolding record_confirmation
-  steady_confirmation B i none e s = s
-  steady_confirmation B i (some r) e s = record { confirmed = all_gain r.bucket (λ c. leb (wait B r.entry) (k.width * c)) s.confirmed; resolved = all_gain r.bucket (λ c. ltb r.through c) s.resolved }
+  steady_confirmation B i None e s = s
+  steady_confirmation B i (Some r) e s = record { confirmed = all_gain r.bucket (λ c. leb (wait B r.entry) (k.width * c)) s.confirmed; resolved = all_gain r.bucket (λ c. ltb r.through c) s.resolved }
 
   steady_confirm : (B : ℕ) (i : Id) (e : Estimator) → Steady e → Steady (confirm k B i e)
   unfolding confirm tx_left
@@ -49,8 +48,8 @@ module _ (k : Board) (d : Factor k.decay) where
 
   steady_skip : (l : Last) (B : ℕ) (e : Estimator) → Steady e → Steady (skip_heights k l B e)
   unfolding skip_heights
-  steady_skip Nothing B e s = s
-  steady_skip (At L) B e s = steady_advances L.0 (B - suc L.0) e s
+  steady_skip None B e s = s
+  steady_skip (Some L) B e s = steady_advances L.0 (B - suc L.0) e s
 
   steady_finish : (t : Bool) (B : ℕ) (e : Estimator) → Steady e → Steady (finish_block k t B e)
   unfolding finish_block

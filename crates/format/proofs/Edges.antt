@@ -8,7 +8,7 @@ use native.Mathlib.Omega.{arith}
 use lib.Dec.{ltb}
 use lib.ListN.{length, replicate}
 use Rattle.kinds.specs.declared.State.{State}
-use Rattle.kinds.specs.declared.Last.TheVariants.{Nothing}
+use Rattle.std.specs.Prelude.{None}
 use Rattle.kinds.specs.Answers.{Answer, done, damaged, no_room, short_output}
 use Rattle.rules.specs.Counts.{no_counts}
 use Rattle.rules.specs.Board.{Pending, Confirmed, base}
@@ -48,7 +48,7 @@ listed_fits n h b = record { id = refl; height = b }
 
 -- each table lists two records of one id
 abbrev twice : Estimator
-twice = uncounted Nothing (entered 1 99 ∷ entered 1 100 ∷ []) (listed 2 5 ∷ listed 2 6 ∷ [])
+twice = uncounted None (entered 1 99 ∷ entered 1 100 ∷ []) (listed 2 5 ∷ listed 2 6 ∷ [])
 
 -- memory with so many places: reading does not judge what stands in them
 abbrev places : ℕ → ℕ → Lent
@@ -60,7 +60,7 @@ reading l = read_call version_1 base l (history_of version_1 twice)
 
 reads : (l : Lent) → reading l ≡ cond (enough l.confirmed && enough l.resolved) (taken_in base l (good twice)) (refused damaged (state_of fresh) l)
 unfolding read_call
-reads l = rw (written_is_read version_1 version_1_lawful twice (uncounted_writable Nothing tt (omega arith) (omega arith)
+reads l = rw (written_is_read version_1 version_1_lawful twice (uncounted_writable None tt (omega arith) (omega arith)
     (more (entered_well 1 99 (omega arith)) (more (entered_well 1 100 (omega arith)) none)) (more (listed_fits 2 5 (omega arith)) (more (listed_fits 2 6 (omega arith)) none))))
 
 -- a count missing: 1; a place missing for a record, though of each id one record stays: 11
@@ -70,7 +70,7 @@ unfolding compute_calls has_room taken_in settled restored
 readings = simp reads
 
 -- of each id the last record, zeros in the places left, and the used numbers
-pub brought_in : reading (places 2 2) ≡ outcome done (state Nothing 1 1) (lent no_counts no_counts (pending 1 33 0 ++ zeros 44) (confirmed 2 6 ++ zeros 36))
+pub brought_in : reading (places 2 2) ≡ outcome done (state None 1 1) (lent no_counts no_counts (pending 1 33 0 ++ zeros 44) (confirmed 2 6 ++ zeros 36))
 unfolding compute_calls has_room taken_in settled restored
 brought_in = reads (places 2 2)
 

@@ -4,8 +4,8 @@ use mathlib.Core.List.{List, [], ◌∷◌, ◌++◌}
 use Prim.Native.Nat.{ℕ, ◌≤◌}
 use native.Mathlib.Omega.{arith}
 use lib.ListN.{length, take, length-replicate}
-use Rattle.kinds.specs.declared.Last.{Last}
-use Rattle.kinds.specs.declared.Last.TheVariants.{Nothing}
+use Rattle.kinds.specs.Last.{Last}
+use Rattle.std.specs.Prelude.{None}
 use Rattle.kinds.specs.Answers.{corrupt}
 use Rattle.rules.specs.Ladder.{ladder}
 use Rattle.rules.specs.Counts.{places_of_counts, nought, no_counts}
@@ -55,7 +55,7 @@ uncounted_writable last short few-pending few-recent ps cs =
 
 fresh_writable : Writable fresh
 unfolding fresh
-fresh_writable = uncounted_writable Nothing tt (omega arith) (omega arith) none none
+fresh_writable = uncounted_writable None tt (omega arith) (omega arith) none none
 
 -- ---- of any lawful version
 

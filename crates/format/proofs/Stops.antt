@@ -17,7 +17,7 @@ use Rattle.rules.specs.Board.{Board, in_range, confirmed_size, confirmed_of, pen
 use Rattle.rules.specs.Estimator.{Estimator}
 use Rattle.rules.specs.Memory.{Lent, enough}
 use Rattle.rules.specs.Calls.{accepted}
-use Rattle.kinds.specs.declared.Last.TheVariants.{Nothing, At}
+use Rattle.std.specs.Prelude.{None, Some}
 use Rattle.format.specs.Parts.{Read, stopped, got, Part, and_then, ◌>>=◌, ◌>>◌, give, refuse, must, takes, number, times, Parsed, bad, good, ended}
 use Rattle.format.specs.File.{Version, magic, rates, read_flagged, read_last, read_bucket_count, with_bucket_count, read_start, read_after, read_head, read_count, read_row, read_buckets, read_pending, read_confirmed, read_table, read_tables, read_file, read_history, restored}
 use Rattle.format.specs.Calls.{has_room, taken_in, read_call}
@@ -91,8 +91,8 @@ module _ {P : Answer → Type 0} (is-corrupt : P corrupt) where
 
   stops_flagged : (n : ℕ) → Stops P (read_flagged n)
   unfolding read_flagged
-  stops_flagged zero = stops_give Nothing
-  stops_flagged (suc zero) = stops_then (stops_number 4) (λ h. stops_give (At (record { 0 = h })))
+  stops_flagged zero = stops_give None
+  stops_flagged (suc zero) = stops_then (stops_number 4) (λ h. stops_give (Some (record { 0 = h })))
   stops_flagged (suc (suc n)) = stops_refuse corrupt is-corrupt
 
   stops_last : Stops P read_last

@@ -9,8 +9,8 @@ use borrow.Author.Tests.{eq-eqb, ne_eqb, le-leb}
 use lib.Dec.{T, eqb}
 use lib.Pow.{are_bytes}
 use lib.ListN.{length, take, drop, get_or, length-drop}
-use Rattle.kinds.specs.declared.Last.{Last}
-use Rattle.kinds.specs.declared.Last.TheVariants.{Nothing, At}
+use Rattle.kinds.specs.Last.{Last}
+use Rattle.std.specs.Prelude.{None, Some}
 use Rattle.kinds.specs.Answers.{bad_magic, unknown_version, corrupt}
 use Rattle.rules.specs.Ids.{same}
 use Rattle.rules.specs.Ladder.{buckets}
@@ -104,7 +104,7 @@ module _ (s : List ℕ) (at : ℕ) where
   unfolding read_last
   flag_is h n e = then_got (number 1) _ (number_at 1 s at h) ∙ ap (λ (k : ℕ). read_flagged k (drop (at + 1) s)) (first_byte s at (omega arith) ∙ e)
 
-  pub flag_none : at + 1 ≤ length s → get_or s at 0 ≡ 0 → read_start (drop at s) ≡ with_bucket_count Nothing (drop (at + 1) s)
+  pub flag_none : at + 1 ≤ length s → get_or s at 0 ≡ 0 → read_start (drop at s) ≡ with_bucket_count None (drop (at + 1) s)
   unfolding read_start read_flagged give
   flag_none h e = then_got read_last _ (flag_is h 0 e)
 
@@ -121,12 +121,12 @@ module _ (s : List ℕ) (at : ℕ) where
   unfolding read_start read_flagged
   flag_short h e k = then_stopped read_last _ (flag_is h 1 e ∙ then_stopped (number 4) _ (number_short 4 s (at + 1) h (omega arith)))
 
-  pub flag_at : at + 5 ≤ length s → get_or s at 0 ≡ 1 → read_start (drop at s) ≡ with_bucket_count (At (record { 0 = le_at 4 s (at + 1) })) (drop (at + 5) s)
+  pub flag_at : at + 5 ≤ length s → get_or s at 0 ≡ 1 → read_start (drop at s) ≡ with_bucket_count (Some (record { 0 = le_at 4 s (at + 1) })) (drop (at + 5) s)
   unfolding read_start read_flagged give
   flag_at h e =
       let k : at + 1 + 4 ≡ at + 5 = omega arith in
       then_got read_last _ (flag_is (omega arith) 1 e ∙ then_got (number 4) _ (number_at 4 s (at + 1) (omega arith)))
-      ∙ ap (λ (i : ℕ). with_bucket_count (At (record { 0 = le_at 4 s (at + 1) })) (drop i s)) k
+      ∙ ap (λ (i : ℕ). with_bucket_count (Some (record { 0 = le_at 4 s (at + 1) })) (drop i s)) k
 
 -- ---- from the first byte on
 

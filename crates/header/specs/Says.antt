@@ -1,5 +1,5 @@
 -- What the answer of the reading says of the header. Assumes nothing.
-use Rattle.kinds.specs.declared.Last.{Last}
+use Rattle.kinds.specs.Last.{Last}
 use Rattle.kinds.specs.Answers.{bad_magic, unknown_version, corrupt}
 use Rattle.format.specs.Parts.{Parsed, bad, good}
 use Rattle.header.specs.declared.Header.{Header}

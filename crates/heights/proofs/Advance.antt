@@ -11,7 +11,7 @@ use lib.Pow.{are_bytes}
 use lib.Ieee.{Float}
 use Rattle.kinds.specs.declared.Height.{Height}
 use Rattle.kinds.specs.declared.Horizon.{Horizon}
-use Rattle.kinds.specs.declared.Last.TheVariants.{At}
+use Rattle.std.specs.Prelude.{Some}
 use Rattle.kinds.specs.declared.State.{State}
 use Rattle.kinds.specs.Answers.{done}
 use Rattle.rules.specs.Lists.{keep}
@@ -50,7 +50,7 @@ plain d xs = ap (λ (ys : Counts). ys ++ drop places_of_counts xs) (once d (take
 
 -- the same state and the same memory
 same : {h : Height} {p q m n : ℕ} {c c' r r' : List Float} {x x' y y' : List ℕ} → p ≡ q → m ≡ n → c ≡ c' → r ≡ r' → x ≡ x' → y ≡ y'
-    → outcome done (record { last = At h; pending = p; recent = m }) (lent c r x y) ≡ outcome done (record { last = At h; pending = q; recent = n }) (lent c' r' x' y')
+    → outcome done (record { last = Some h; pending = p; recent = m }) (lent c r x y) ≡ outcome done (record { last = Some h; pending = q; recent = n }) (lent c' r' x' y')
 same a b d e f g = cc
 
 module _ (on : Horizon) (s : State) (l : Lent) (r : Ready (board_of on) s l) where
@@ -125,7 +125,7 @@ module _ (on : Horizon) (s : State) (l : Lent) (r : Ready (board_of on) s l) whe
       → rs ≡ map (often 1 d) (take places_of_counts es) ++ drop places_of_counts es
       → q ≡ length (pruned h.0)
       → ts ≡ laid confirmed_size s.recent (pruned h.0) l.recent
-      → outcome done (record { last = At h; pending = p; recent = q }) (lent cs rs ps ts) ≡ accepted k (advance_height k h.0 (view k s l)) l
+      → outcome done (record { last = Some h; pending = p; recent = q }) (lent cs rs ps ts) ≡ accepted k (advance_height k h.0 (view k s l)) l
   unfolding state_of lay advance_height view
   advanced h d p q cs es rs ps ts factor bytes more_bytes e waiting pending confirmed resolved young recent =
       let a = pending_left h.0 p ps bytes waiting pending in

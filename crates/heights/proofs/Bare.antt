@@ -9,8 +9,8 @@ use lib.ListN.{take, drop}
 use lib.Ieee.{Float}
 use borrow.Author.Tests.{eqb-true, ltb-true, lt-ltb}
 use Rattle.kinds.specs.declared.Height.{Height}
-use Rattle.kinds.specs.declared.Last.{Last}
-use Rattle.kinds.specs.declared.Last.TheVariants.{At}
+use Rattle.kinds.specs.Last.{Last}
+use Rattle.std.specs.Prelude.{Some}
 use Rattle.kinds.specs.declared.State.{State}
 use Rattle.kinds.specs.Answers.{done}
 use Rattle.rules.specs.Lists.{keep}
@@ -57,12 +57,12 @@ bare last xs ys = record { last = last; pending = []; recent = []; confirmed = x
 
 -- what heights make of it
 bare_advanced : (k : Board) (L n : ℕ) (last : Last) (xs ys : Counts)
-    → advance_heights k L (suc n) (bare last xs ys) ≡ bare (At (record { 0 = L + suc n })) (map (often (suc n) k.decay) xs) (map (often (suc n) k.decay) ys)
+    → advance_heights k L (suc n) (bare last xs ys) ≡ bare (Some (record { 0 = L + suc n })) (map (often (suc n) k.decay) xs) (map (often (suc n) k.decay) ys)
 unfolding advance_heights advance_height expire_targets keep apply_decay often
 bare_advanced k L zero last xs ys = refl
 bare_advanced k L (suc n) last xs ys =
     ap (advance_height k (L + suc (suc n))) (bare_advanced k L n last xs ys)
-    ∙ ap₂ (bare (At (record { 0 = L + suc (suc n) }))) (once_more (suc n) k.decay xs) (once_more (suc n) k.decay ys)
+    ∙ ap₂ (bare (Some (record { 0 = L + suc (suc n) }))) (once_more (suc n) k.decay xs) (once_more (suc n) k.decay ys)
 
 module _ (k : Board) (s : State) (l : Lent) (ready : Ready k s l) (no-pending : s.pending ≡ 0) (no-recent : s.recent ≡ 0) where
   seen_bare : view k s l ≡ bare s.last (take places_of_counts l.confirmed) (take places_of_counts l.resolved)
@@ -85,7 +85,7 @@ module _ (k : Board) (s : State) (l : Lent) (ready : Ready k s l) (no-pending : 
   pub at_once : (L n : ℕ) (h : Height) (d : Float) (cs rs : Counts) → 0 < n → h.0 ≡ L + n → d ≡ k.decay
       → cs ≡ map (often n d) (take places_of_counts l.confirmed) ++ drop places_of_counts l.confirmed
       → rs ≡ map (often n d) (take places_of_counts l.resolved) ++ drop places_of_counts l.resolved
-      → outcome done (record { last = At h; pending = 0; recent = 0 }) (lent cs rs l.pending l.recent) ≡ accepted k (advance_heights k L n (view k s l)) l
+      → outcome done (record { last = Some h; pending = 0; recent = 0 }) (lent cs rs l.pending l.recent) ≡ accepted k (advance_heights k L n (view k s l)) l
   unfolding state_of lay
   at_once L zero h d cs rs z e f c r = absurd (omega (arith, z))
   at_once L (suc n) h d cs rs z e f c r = rw (seen_bare, bare_advanced k L n, own_pending, own_recent, c, r, f, ← e) refl

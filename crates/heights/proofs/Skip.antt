@@ -8,8 +8,8 @@ use native.Mathlib.Omega.{arith}
 use lib.ListN.{take, drop}
 use lib.Ieee.{Float}
 use Rattle.kinds.specs.declared.Height.{Height}
-use Rattle.kinds.specs.declared.Last.{Last}
-use Rattle.kinds.specs.declared.Last.TheVariants.{Nothing, At}
+use Rattle.kinds.specs.Last.{Last}
+use Rattle.std.specs.Prelude.{None, Some}
 use Rattle.kinds.specs.declared.State.{State}
 use Rattle.kinds.specs.Answers.{done}
 use Rattle.rules.specs.Counts.{Counts, places_of_counts}
@@ -62,7 +62,7 @@ module _ (k : Board) (law : Lawful k) (L n : ℕ) (s₀ : State) (m : Lent) (rea
   pub rest : {s : State} {l : Lent} {i : ℕ} → Going k L n s₀ m s l i → i < n → s.pending ≡ 0 → s.recent ≡ 0 → (h : Height) (d : Float) (cs rs : Counts) → h.0 ≡ L + n → d ≡ k.decay
       → cs ≡ map (often (n - i) d) (take places_of_counts l.confirmed) ++ drop places_of_counts l.confirmed
       → rs ≡ map (often (n - i) d) (take places_of_counts l.resolved) ++ drop places_of_counts l.resolved
-      → outcome done (record { last = At h; pending = 0; recent = 0 }) (lent cs rs l.pending l.recent) ≡ accepted k (advance_heights k L n (view k s₀ m)) m
+      → outcome done (record { last = Some h; pending = 0; recent = 0 }) (lent cs rs l.pending l.recent) ≡ accepted k (advance_heights k L n (view k s₀ m)) m
   rest {s} {l} {i} g less p q h d cs rs top f c r =
       let e : n - i + i ≡ n = omega arith in
       step_after k law m (advance_heights k L i (view k s₀ m)) (advance_heights k (L + i) (n - i)) (well i) (room i) g.advanced
@@ -79,15 +79,15 @@ module _ (k : Board) (law : Lawful k) (s : State) (m : Lent) (B : ℕ) where
   asked : {last : Last} (o : Outcome Lent) → s.last ≡ last → o ≡ accepted k (skip_heights k last B (view k s m)) m → o ≡ accepted k (skip_heights k s.last B (view k s m)) m
   asked o e q = q ∙ ap (λ (x : Last). accepted k (skip_heights k x B (view k s m)) m) (sym e)
 
-  pub no_last : Ready k s m → s.last ≡ Nothing → outcome done s m ≡ accepted k (skip_heights k s.last B (view k s m)) m
+  pub no_last : Ready k s m → s.last ≡ None → outcome done s m ≡ accepted k (skip_heights k s.last B (view k s m)) m
   unfolding skip_heights
   no_last r e = asked (outcome done s m) e (step_none k law s m r)
 
-  pub between : {t : State} {l : Lent} {low : Height} (n : ℕ) → s.last ≡ At low → n ≡ B - suc low.0
+  pub between : {t : State} {l : Lent} {low : Height} (n : ℕ) → s.last ≡ Some low → n ≡ B - suc low.0
       → outcome done t l ≡ accepted k (advance_heights k low.0 n (view k s m)) m → outcome done t l ≡ accepted k (skip_heights k s.last B (view k s m)) m
   unfolding skip_heights
   between {t} {l} n e q p = asked (outcome done t l) e (rw q at p)
 
-  pub none_between : {low : Height} → Ready k s m → s.last ≡ At low → B ≤ low.0 → outcome done s m ≡ accepted k (skip_heights k s.last B (view k s m)) m
+  pub none_between : {low : Height} → Ready k s m → s.last ≡ Some low → B ≤ low.0 → outcome done s m ≡ accepted k (skip_heights k s.last B (view k s m)) m
   unfolding advance_heights
   none_between {low} r e h = between 0 e (omega arith) (step_none k law s m r)

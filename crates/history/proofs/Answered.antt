@@ -4,7 +4,7 @@ use mathlib.Core.List.{List}
 use Prim.Native.Nat.{ℕ, ◌≤◌, ◌<◌}
 use lib.ListN.{length}
 use borrow.Author.Tests.{le-leb, lt-leb}
-use Rattle.kinds.specs.declared.Last.{Last}
+use Rattle.kinds.specs.Last.{Last}
 use Rattle.kinds.specs.declared.State.{State}
 use Rattle.kinds.specs.declared.Reading.{Reading}
 use Rattle.kinds.specs.declared.ReadAnswer.{ReadAnswer}

@@ -8,7 +8,7 @@ use lib.Dec.{T}
 use lib.ListN.{length, drop, length-drop}
 use lib.Pow.{are_bytes}
 use lib.Ieee.{Float}
-use Rattle.kinds.specs.declared.Last.{Last}
+use Rattle.kinds.specs.Last.{Last}
 use Rattle.kinds.specs.Answers.{done}
 use Rattle.rules.specs.Ladder.{buckets}
 use Rattle.rules.specs.Counts.{places_of_counts}

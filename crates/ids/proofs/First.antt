@@ -10,16 +10,16 @@ use lib.ListN.{length, get_or, drop}
 use borrow.Author.Tests.{ltb-true, ltb-false, lt-ltb, le-ltb}
 use Rattle.mem.specs.Be.{be_at}
 use Rattle.mem.proofs.Laws.{be_at_4}
-use Rattle.ids.specs.declared.order.Order.{Order}
-use Rattle.ids.specs.declared.order.Order.TheVariants.{Less, Greater}
+use Rattle.std.specs.Ordering.{Ordering}
+use Rattle.std.specs.Ordering.{Less, Greater}
 use Rattle.ids.specs.Search.{cmp}
 use Rattle.ids.proofs.Ids.{Below, id32, cmp_turn, cmp_below}
 
 -- two numbers decide, or the rest
-abbrev pub step : ℕ → ℕ → Order → Order
+abbrev pub step : ℕ → ℕ → Ordering → Ordering
 step x y r = cond (ltb x y) Less (cond (ltb y x) Greater r)
 
-module _ (x y : ℕ) (r : Order) where
+module _ (x y : ℕ) (r : Ordering) where
   less : x < y → step x y r ≡ Less
   less h = rw (lt-ltb x y h)
 
@@ -44,14 +44,14 @@ module _ (x y : ℕ) (r : Order) where
       go false e = (let s : x ≡ y = omega (arith, h, ltb-false y x e) in alike s ∙ k s)
 
 -- bytes a to d against bytes w to z: one step of numbers is four of bytes
-module _ (a b c d w x y z : ℕ) (B : b < 256) (C : c < 256) (D : d < 256) (X : x < 256) (Y : y < 256) (Z : z < 256) (r : Order) where
+module _ (a b c d w x y z : ℕ) (B : b < 256) (C : c < 256) (D : d < 256) (X : x < 256) (Y : y < 256) (Z : z < 256) (r : Ordering) where
   abbrev m : ℕ
   m = d + 256 * (c + 256 * (b + 256 * a))
 
   abbrev n : ℕ
   n = z + 256 * (y + 256 * (x + 256 * w))
 
-  abbrev four : Order
+  abbrev four : Ordering
   four = step a w (step b x (step c y (step d z r)))
 
   four_less : m < n → four ≡ Less
@@ -87,12 +87,12 @@ module _ (a b c d w x y z : ℕ) (B : b < 256) (C : c < 256) (D : d < 256) (X : 
 -- of two ids in tables: the words that the code reads
 module _ (a : List ℕ) (p : ℕ) (b : List ℕ) (q : ℕ) (ha : p + 32 ≤ length a) (hb : q + 32 ≤ length b) (fa : (i : ℕ) → get_or a i 0 < 256) (fb : (i : ℕ) → get_or b i 0 < 256) where
   -- what is left to compare
-  abbrev left : ℕ → Order
+  abbrev left : ℕ → Ordering
   left i = cmp (drop i (id32 p a)) (drop i (id32 q b))
 
   -- `cmp_turn` with the places under any names
   byte : (i j k l : ℕ) → k ≡ p + i → l ≡ q + i → j ≡ i + 1 → i < 32 → left i ≡ step (get_or a k 0) (get_or b l 0) (left j)
-  byte i j k l d e f h = cmp_turn a p b q i ha hb h ∙ ap (λ (o : Order). step (get_or a (p + i) 0) (get_or b (q + i) 0) o) (ap left (sym f)) ∙ ap (λ (n : ℕ). step (get_or a n 0) (get_or b (q + i) 0) (left j)) (sym d) ∙ ap (λ (n : ℕ). step (get_or a k 0) (get_or b n 0) (left j)) (sym e)
+  byte i j k l d e f h = cmp_turn a p b q i ha hb h ∙ ap (λ (o : Ordering). step (get_or a (p + i) 0) (get_or b (q + i) 0) o) (ap left (sym f)) ∙ ap (λ (n : ℕ). step (get_or a n 0) (get_or b (q + i) 0) (left j)) (sym d) ∙ ap (λ (n : ℕ). step (get_or a k 0) (get_or b n 0) (left j)) (sym e)
 
   -- a turn of the loop that compares
   pub word_turn : (i : ℕ) → i + 4 ≤ 32 → left i ≡ step (be_at 4 a (p + i)) (be_at 4 b (q + i)) (left (i + 4))

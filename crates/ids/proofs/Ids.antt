@@ -11,8 +11,8 @@ use lib.Seq.{drop-cons, get_or-take, get_or-drop}
 use borrow.Author.Tests.{ltb-true, ltb-false, eq-eqb, ne_eqb}
 use Rattle.rules.specs.Ids.{Id, below}
 use Rattle.ids.specs.Search.{cmp, is_less}
-use Rattle.ids.specs.declared.order.Order.{Order}
-use Rattle.ids.specs.declared.order.Order.TheVariants.{Less, Equal, Greater}
+use Rattle.std.specs.Ordering.{Ordering}
+use Rattle.std.specs.Ordering.{Less, Equal, Greater}
 
 -- a is below b
 abbrev pub Below : Id → Id → Type 0
@@ -40,7 +40,7 @@ below_cmp_is (x ∷ a) (y ∷ b) = go (ltb x y) (ltb y x) refl refl (below_cmp_i
     go false false e f h = rw (eq-eqb x y (alike x y e f)) h
 
 -- an order, seen from the other id
-abbrev turned : Order → Order
+abbrev turned : Ordering → Ordering
 turned Less = Greater
 turned Equal = Equal
 turned Greater = Less
@@ -73,7 +73,7 @@ cmp_equal (x ∷ a) (y ∷ b) q = go (ltb x y) (ltb y x) refl refl q (cmp_equal 
 pub cmp_refl : (a : Id) → cmp a a ≡ Equal
 cmp_refl a = go (cmp a a) (cmp_turned a a)
   where
-    go : (o : Order) → o ≡ turned o → o ≡ Equal
+    go : (o : Ordering) → o ≡ turned o → o ≡ Equal
     go Less e = let z : ◌≡◌ {A = ℕ} 0 1 = cc in absurd (omega arith)
     go Equal e = refl
     go Greater e = let z : ◌≡◌ {A = ℕ} 0 1 = cc in absurd (omega arith)
@@ -84,7 +84,7 @@ module _ (a b : Id) where
   pub below_cmp : Below a b → cmp a b ≡ Less
   below_cmp h = go (cmp a b) (sym (below_cmp_is a b) ∙ h)
     where
-      go : (o : Order) → is_less o ≡ true → o ≡ Less
+      go : (o : Ordering) → is_less o ≡ true → o ≡ Less
       go Less e = refl
       go Equal e = let z : ◌≡◌ {A = ℕ} 0 1 = cc in absurd (omega arith)
       go Greater e = let z : ◌≡◌ {A = ℕ} 0 1 = cc in absurd (omega arith)

@@ -1,4 +1,5 @@
 -- The search among ids that rise: where it ends, and what its answer tells. Assumes nothing.
+use Rattle.std.specs.Prelude.{Ok, Err}
 use mathlib.Core.Path.{◌≡◌, refl, ap, ◌∙◌}
 use mathlib.Core.List.{List, [], ◌∷◌}
 use Prim.Native.Nat.{ℕ, zero, suc, ◌+◌, ◌≤◌, ◌<◌, zero-le, suc-le-suc}
@@ -7,27 +8,26 @@ use native.Mathlib.Omega.{arith}
 use lib.ListN.{length, get_or}
 use Rattle.rules.specs.Ids.{Id}
 use Rattle.ids.specs.Search.{cmp, decide, find_from}
-use Rattle.ids.specs.declared.order.Order.{Order}
-use Rattle.ids.specs.declared.order.Order.TheVariants.{Less, Equal, Greater}
-use Rattle.ids.specs.declared.Found.TheVariants.{At, Gap}
+use Rattle.std.specs.Ordering.{Ordering}
+use Rattle.std.specs.Ordering.{Less, Equal, Greater}
 use Rattle.ids.proofs.Ids.{Below, below_cmp, below_turned, cmp_below, cmp_above, cmp_equal, cmp_refl}
 
 pub find_gap : (id : Id) (k : ℕ) (js : List Id) (n : ℕ) → n ≤ length js → ((i : ℕ) → i < n → Below (get_or js i []) id) → (n < length js → Below id (get_or js n []))
-    → find_from id k js ≡ Gap (k + n)
+    → find_from id k js ≡ Err (k + n)
 unfolding find_from
-find_gap id k [] n l h g = ap Gap (omega arith)
-find_gap id k (j ∷ js) zero l h g = rw (below_turned j id (g (suc-le-suc zero-le))) (ap Gap (omega arith))
+find_gap id k [] n l h g = ap Err (omega arith)
+find_gap id k (j ∷ js) zero l h g = rw (below_turned j id (g (suc-le-suc zero-le))) (ap Err (omega arith))
 find_gap id k (j ∷ js) (suc n) l h g =
     rw (below_cmp j id (h zero (suc-le-suc zero-le)))
-    (find_gap id (suc k) js n (le_of_suc-le-suc l) (λ i q. h (suc i) (suc-le-suc q)) (λ q. g (suc-le-suc q)) ∙ ap Gap (omega arith))
+    (find_gap id (suc k) js n (le_of_suc-le-suc l) (λ i q. h (suc i) (suc-le-suc q)) (λ q. g (suc-le-suc q)) ∙ ap Err (omega arith))
 
-pub find_at : (id : Id) (k : ℕ) (js : List Id) (n : ℕ) → n < length js → ((i : ℕ) → i < n → Below (get_or js i []) id) → get_or js n [] ≡ id → find_from id k js ≡ At (k + n)
+pub find_at : (id : Id) (k : ℕ) (js : List Id) (n : ℕ) → n < length js → ((i : ℕ) → i < n → Below (get_or js i []) id) → get_or js n [] ≡ id → find_from id k js ≡ Ok (k + n)
 unfolding find_from
 find_at id k [] n l h g = absurd (not-suc-le-zero l)
-find_at id k (j ∷ js) zero l h g = rw (g, cmp_refl id) (ap At (omega arith))
+find_at id k (j ∷ js) zero l h g = rw (g, cmp_refl id) (ap Ok (omega arith))
 find_at id k (j ∷ js) (suc n) l h g =
     rw (below_cmp j id (h zero (suc-le-suc zero-le)))
-    (find_at id (suc k) js n (le_of_suc-le-suc l) (λ i q. h (suc i) (suc-le-suc q)) g ∙ ap At (omega arith))
+    (find_at id (suc k) js n (le_of_suc-le-suc l) (λ i q. h (suc i) (suc-le-suc q)) g ∙ ap Ok (omega arith))
 
 -- ---- what the answer tells
 
@@ -42,7 +42,7 @@ pub record Here (id : Id) (js : List Id) (n : ℕ) : Type 0 where
   pub within : n < length js
   pub is : get_or js n [] ≡ id
 
-pub gap_from : (id : Id) (k : ℕ) (js : List Id) (n : ℕ) → find_from id k js ≡ Gap n → (i : ℕ) × ((n ≡ k + i) × Open id js i)
+pub gap_from : (id : Id) (k : ℕ) (js : List Id) (n : ℕ) → find_from id k js ≡ Err n → (i : ℕ) × ((n ≡ k + i) × Open id js i)
 unfolding find_from
 gap_from id k [] n e =
     let p : k ≡ n = cc in
@@ -59,14 +59,14 @@ gap_from id k (j ∷ js) n e = go (cmp j id) refl e (gap_from id (suc k) js n)
         before zero q = b
         before (suc i) q = t.1.1.under i (le_of_suc-le-suc q)
 
-    go : (o : Order) → cmp j id ≡ o → decide o (find_from id (suc k) js) (At k) (Gap k) ≡ Gap n → (find_from id (suc k) js ≡ Gap n → (i : ℕ) × ((n ≡ suc k + i) × Open id js i)) → Told
+    go : (o : Ordering) → cmp j id ≡ o → decide o (find_from id (suc k) js) (Ok k) (Err k) ≡ Err n → (find_from id (suc k) js ≡ Err n → (i : ℕ) × ((n ≡ suc k + i) × Open id js i)) → Told
     go Less c q f = more (cmp_below j id c) (f q)
     go Equal c q f = let z : ◌≡◌ {A = ℕ} 0 1 = cc in absurd (omega arith)
     go Greater c q f =
         let p : k ≡ n = cc in
         (0, (omega arith, record { within = zero-le; under = λ i q. absurd (not-suc-le-zero q); over = λ _. cmp_above j id c }))
 
-pub at_from : (id : Id) (k : ℕ) (js : List Id) (n : ℕ) → find_from id k js ≡ At n → (i : ℕ) × ((n ≡ k + i) × Here id js i)
+pub at_from : (id : Id) (k : ℕ) (js : List Id) (n : ℕ) → find_from id k js ≡ Ok n → (i : ℕ) × ((n ≡ k + i) × Here id js i)
 unfolding find_from
 at_from id k [] n e = let z : ◌≡◌ {A = ℕ} 0 1 = cc in absurd (omega arith)
 at_from id k (j ∷ js) n e = go (cmp j id) refl e (at_from id (suc k) js n)
@@ -74,18 +74,18 @@ at_from id k (j ∷ js) n e = go (cmp j id) refl e (at_from id (suc k) js n)
     Told : Type 0
     Told = (i : ℕ) × ((n ≡ k + i) × Here id (j ∷ js) i)
 
-    go : (o : Order) → cmp j id ≡ o → decide o (find_from id (suc k) js) (At k) (Gap k) ≡ At n → (find_from id (suc k) js ≡ At n → (i : ℕ) × ((n ≡ suc k + i) × Here id js i)) → Told
+    go : (o : Ordering) → cmp j id ≡ o → decide o (find_from id (suc k) js) (Ok k) (Err k) ≡ Ok n → (find_from id (suc k) js ≡ Ok n → (i : ℕ) × ((n ≡ suc k + i) × Here id js i)) → Told
     go Less c q f = let t = f q in (suc t.0, (omega (arith, t.1.0), record { within = suc-le-suc t.1.1.within; is = t.1.1.is }))
     go Equal c q f = let p : k ≡ n = cc in (0, (omega arith, record { within = suc-le-suc zero-le; is = cmp_equal j id c }))
     go Greater c q f = let z : ◌≡◌ {A = ℕ} 0 1 = cc in absurd (omega arith)
 
-pub gap_told : (id : Id) (js : List Id) (n : ℕ) → find_from id 0 js ≡ Gap n → Open id js n
+pub gap_told : (id : Id) (js : List Id) (n : ℕ) → find_from id 0 js ≡ Err n → Open id js n
 gap_told id js n e =
     let t = gap_from id 0 js n e in
     let p : n ≡ t.0 = omega (arith, t.1.0) in
     rw p t.1.1
 
-pub at_told : (id : Id) (js : List Id) (n : ℕ) → find_from id 0 js ≡ At n → Here id js n
+pub at_told : (id : Id) (js : List Id) (n : ℕ) → find_from id 0 js ≡ Ok n → Here id js n
 at_told id js n e =
     let t = at_from id 0 js n e in
     let p : n ≡ t.0 = omega (arith, t.1.0) in

@@ -1,34 +1,32 @@
 -- The order of ids as one of three, and where an id stands among rising ids, or belongs. Assumes nothing.
-use Rattle.std.specs.Prelude.{ℕ, suc, Bool, true, false, cond, List, [], ◌∷◌, ltb}
+use Rattle.std.specs.Prelude.{ℕ, suc, Bool, true, false, cond, List, [], ◌∷◌, ltb, Ok, Err}
 use Rattle.rules.specs.Ids.{Id}
-use Rattle.ids.specs.declared.order.Order.{Order}
-use Rattle.ids.specs.declared.order.Order.TheVariants.{Less, Equal, Greater}
-use Rattle.ids.specs.declared.Found.{Found}
-use Rattle.ids.specs.declared.Found.TheVariants.{At, Gap}
+use Rattle.std.specs.Ordering.{Ordering}
+use Rattle.std.specs.Ordering.{Less, Equal, Greater}
 
 -- the order of two ids, byte by byte
-unfoldable pub cmp : Id → Id → Order
+unfoldable pub cmp : Id → Id → Ordering
 cmp [] [] = Equal
 cmp [] (y ∷ ys) = Less
 cmp (x ∷ xs) [] = Greater
 cmp (x ∷ xs) (y ∷ ys) = cond (ltb x y) Less (cond (ltb y x) Greater (cmp xs ys))
 
 -- whether an order is Less
-abbrev pub is_less : Order → Bool
+abbrev pub is_less : Ordering → Bool
 is_less Less = true
 is_less Equal = false
 is_less Greater = false
 
 -- what a look at one id decides: below the one that is looked for, go on; the id itself; above it, it is missing
-abbrev pub decide : Order → Found → Found → Found → Found
+abbrev pub decide : Ordering → Found → Found → Found → Found
 decide Less on at gap = on
 decide Equal on at gap = at
 decide Greater on at gap = gap
 
 -- where `id` stands among ids, the first of which has the number `k`, or where it belongs
 unfoldable pub find_from : Id → ℕ → List Id → Found
-find_from id k [] = Gap k
-find_from id k (j ∷ js) = decide (cmp j id) (find_from id (suc k) js) (At k) (Gap k)
+find_from id k [] = Err k
+find_from id k (j ∷ js) = decide (cmp j id) (find_from id (suc k) js) (Ok k) (Err k)
 
 -- where an id stands among ids, or where it belongs
 abbrev pub find_in : Id → List Id → Found

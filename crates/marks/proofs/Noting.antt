@@ -1,5 +1,6 @@
 -- The listed ids, one after the other, mark the records that have them: the marks are those of the ids so far, and these and the ids that are left are the whole
 -- list. Assumes nothing.
+use Rattle.std.specs.Prelude.{Ok, Err}
 use mathlib.Core.Path.{◌≡◌, refl, sym, ap, ◌∙◌, fun_ext}
 use mathlib.Core.Bool.{Bool, true, false, ◌||◌, or-false, or_assoc}
 use mathlib.Core.List.{List, [], ◌++◌, map}
@@ -14,8 +15,7 @@ use Rattle.rules.specs.Calls.{ids_of}
 use Rattle.rules.proofs.Ids.{up_of}
 use Rattle.rules.proofs.Records.{length_records}
 use Rattle.ids.specs.Search.{find_in}
-use Rattle.ids.specs.declared.Found.{Found}
-use Rattle.ids.specs.declared.Found.TheVariants.{At, Gap}
+use Rattle.ids.specs.Search.{Found}
 use Rattle.ids.proofs.Search.{at_told}
 use Rattle.table.proofs.View.{gap_any}
 use Rattle.batch.specs.Needed.{listed}
@@ -37,14 +37,14 @@ noted_beside : (mark : Id → Bool) (i : Id) (rs : List (List ℕ)) (rest : List
 noted_beside mark i rs rest up = go (find_in i (map id_of rs)) refl
   where
     go : (f : Found) → find_in i (map id_of rs) ≡ f → noted f (beside id_of mark rs ++ rest) ≡ beside id_of (λ j. mark j || same j i) rs ++ rest
-    go (At n) e =
+    go (Ok n) e =
         let t = at_told i (map id_of rs) n e in
         let h : n < length rs = omega (arith, t.within, length-map rs id_of) in
         let its : id_of (get_or rs n []) ≡ i = sym (get_or-map id_of rs n []) ∙ t.is in
         set-append_left (beside id_of mark rs) rest n 1 (omega (arith, length_beside mark rs))
         ∙ ap (λ (l : List ℕ). l ++ rest)
         (sym (beside_hit id_of mark n [] (up_of id_of rs up) h) ∙ ap (λ (a : Id). beside id_of (λ j. mark j || same j a) rs) its)
-    go (Gap n) e =
+    go (Err n) e =
         ap (λ (l : List ℕ). l ++ rest) (sym (beside_miss id_of mark i rs (gap_any id_of i 0 n rs up e)))
 
 -- ---- all of them

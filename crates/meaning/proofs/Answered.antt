@@ -10,8 +10,8 @@ use lib.ListN.{length}
 use Rattle.kinds.specs.declared.Blocks.{Blocks}
 use Rattle.kinds.specs.declared.FeeRate.{FeeRate}
 use Rattle.kinds.specs.declared.Height.{Height}
-use Rattle.kinds.specs.declared.Last.{Last}
-use Rattle.kinds.specs.declared.Last.TheVariants.{Nothing, At}
+use Rattle.kinds.specs.Last.{Last}
+use Rattle.std.specs.Prelude.{None, Some}
 use Rattle.kinds.specs.Answers.{Answer, done, below_floor, already_pending, pending_full, absent, bad_list, gap_too_wide, confirmed_full}
 use Rattle.rules.specs.Lists.{count}
 use Rattle.rules.specs.Ids.{Id, same}
@@ -54,8 +54,8 @@ turn false y z = refl
 
 gap_is : (l : Last) (B : Height) → ltb widest_gap (gap l B) ≡ too_far l B.0
 unfolding gap too_far
-gap_is Nothing B = refl
-gap_is (At g) B =
+gap_is None B = refl
+gap_is (Some g) B =
     bool_ext (ltb widest_gap (B.0 - g.0)) (ltb (g.0 + 4096) B.0)
     (λ t. lt→ltb (g.0 + 4096) B.0 (omega (arith, ltb→lt widest_gap (B.0 - g.0) t)))
     (λ t. lt→ltb widest_gap (B.0 - g.0) (omega (arith, ltb→lt (g.0 + 4096) B.0 t)))

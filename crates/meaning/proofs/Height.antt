@@ -2,7 +2,7 @@
 use mathlib.Core.Path.{◌≡◌, refl, sym, ap, ◌∙◌, subst}
 use mathlib.Core.Bool.{Bool, true, false, not, ◌&&◌, ◌||◌, cond}
 use mathlib.Core.List.{List, [], ◌∷◌}
-use mathlib.Core.Option.{Option, none, some}
+use Rattle.std.specs.Prelude.{Option, None, Some}
 use Prim.Native.Nat.{ℕ, suc, ◌+◌, ◌<◌}
 use native.Mathlib.Omega.{arith}
 use borrow.Author.Tests.{ltb-true, lt-ltb}
@@ -50,8 +50,8 @@ confirm_adds h i s q = go (holds i h s.recent) refl
     absent z = sym (none_gain (gaining (is_id i) s.pending) (λ c. omega (arith, count_and_le (λ r. unresolved r (suc c)) (is_id i) s.pending)))
 
     look : (o : Option Pending) → find i s.pending ≡ o → adds_found o ≡ sum columns (gaining (is_id i) s.pending)
-    look none e = absent (find_none i s.pending e)
-    look (some r) e = sym (sum_ext columns (gaining (is_id i) s.pending) (λ c. bit (unresolved r (suc c))) (λ c. find_some i s.pending r e (q.unique i) (λ x. unresolved x (suc c))))
+    look None e = absent (find_none i s.pending e)
+    look (Some r) e = sym (sum_ext columns (gaining (is_id i) s.pending) (λ c. bit (unresolved r (suc c))) (λ c. find_some i s.pending r e (q.unique i) (λ x. unresolved x (suc c))))
 
     go : (b : Bool) → holds i h s.recent ≡ b → cond b 0 (adds_found (find i s.pending)) ≡ sum columns (gaining (is_id i) s.pending)
     go true e = absent (q.settled i (subst T (sym e ∙ holds_held i h s.recent) tt))

@@ -7,8 +7,8 @@ use native.Mathlib.Omega.{arith}
 use borrow.Author.Tests.{lt-ltb}
 use lib.Dec.{eqb}
 use Rattle.kinds.specs.declared.Height.{Height}
-use Rattle.kinds.specs.declared.Last.{Last}
-use Rattle.kinds.specs.declared.Last.TheVariants.{Nothing, At}
+use Rattle.kinds.specs.Last.{Last}
+use Rattle.std.specs.Prelude.{None, Some}
 use Rattle.kinds.specs.Answers.{Answer}
 use Rattle.rules.specs.Ids.{Id}
 use Rattle.rules.specs.Ladder.{buckets}
@@ -85,8 +85,8 @@ module _ (k : Board) (pos : 0 < k.width) where
       → adds_skip k p B (singles k l) + adds_all k B ids (skip_heights k p B (singles k l)) + adds_finish k (advances p B) B (confirm_all k B ids (skip_heights k p B (singles k l)))
       ≡ tallies k (skipped p B l ▸ block ids B) (heights_of p ids B)
   unfolding heights_of skip_heights advances adds_finish adds_skip skipped Above tallies total
-  block_tallies Nothing ids B l a u f = omega (arith, cells_none, one_height l begin ids B u f tt)
-  block_tallies (At g) ids B l a u f =
+  block_tallies None ids B l a u f = omega (arith, cells_none, one_height l begin ids B u f tt)
+  block_tallies (Some g) ids B l a u f =
       let n : ℕ = B - suc g.0 in
       omega (
         arith,

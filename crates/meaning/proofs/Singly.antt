@@ -6,8 +6,8 @@ use mathlib.Core.List.{List}
 use Prim.Native.Nat.{ℕ, zero, suc, ◌+◌, ◌-◌, ◌≤◌, ◌<◌}
 use native.Mathlib.Omega.{arith}
 use lib.Dec.{ltb, lt→ltb}
-use Rattle.kinds.specs.declared.Last.{Last}
-use Rattle.kinds.specs.declared.Last.TheVariants.{Nothing, At}
+use Rattle.kinds.specs.Last.{Last}
+use Rattle.std.specs.Prelude.{None, Some}
 use Rattle.rules.specs.Ids.{Id}
 use Rattle.rules.specs.Board.{Board, pending_most}
 use Rattle.rules.specs.Estimator.{Estimator, fresh, tx_entered, tx_left, advance_height, advances, advance_heights, skip_heights, confirm_all, finish_block, block_connected}
@@ -33,13 +33,13 @@ climbs_empties g (suc n) l m f = (climbs_empties g n l m f, under_empties g n l 
 
 under_skipped : (p : Last) (B : ℕ) (l : Log) → ((h : ℕ) → Above p h → Under h l) → Above p B → (h : ℕ) → B ≤ h → Under h (skipped p B l)
 unfolding Above skipped
-under_skipped Nothing B l f a h q = f h tt
-under_skipped (At g) B l f a h q = under_empties g.0 _ l h (omega arith) (f h (omega arith))
+under_skipped None B l f a h q = f h tt
+under_skipped (Some g) B l f a h q = under_empties g.0 _ l h (omega arith) (f h (omega arith))
 
 climbs_skipped : (p : Last) (B : ℕ) (l : Log) → Climbs l → ((h : ℕ) → Above p h → Under h l) → Climbs (skipped p B l)
 unfolding skipped Above
-climbs_skipped Nothing B l m f = m
-climbs_skipped (At g) B l m f = climbs_empties g.0 _ l m f
+climbs_skipped None B l m f = m
+climbs_skipped (Some g) B l m f = climbs_empties g.0 _ l m f
 
 under_singly : (l : Log) → Rising l → (h : ℕ) → Above (last_of l) h → Under h (singly l)
 unfolding singly Rising last_of Above
@@ -82,8 +82,8 @@ skip_empties k g (suc n) l = ap (advance_height k (g + suc n)) (skip_empties k g
 block_singles : (k : Board) (p : Last) (ids : List Id) (B : ℕ) (l : Log) → Above p B
     → finish_block k (advances p B) B (confirm_all k B ids (skip_heights k p B (singles k l))) ≡ advance_height k B (confirm_all k B ids (singles k (skipped p B l)))
 unfolding advance_height finish_block advances skipped skip_heights Above
-block_singles k Nothing ids B l a = refl
-block_singles k (At g) ids B l a =
+block_singles k None ids B l a = refl
+block_singles k (Some g) ids B l a =
     ap (λ (y : Bool). finish_block k y B (confirm_all k B ids (advance_heights k g.0 (B - suc g.0) (singles k l)))) (is_true (ltb g.0 B) (lt→ltb g.0 B a))
     ∙ ap (λ (s : Estimator). advance_height k B (confirm_all k B ids s)) (skip_empties k g.0 (B - suc g.0) l)
 
@@ -106,8 +106,8 @@ admitted_empties k g (suc n) l f = admitted_empties k g n l f
 
 admitted_skipped : (k : Board) (p : Last) (B : ℕ) (l : Log) → Admitted (left_by k) l → Admitted (left_by k) (skipped p B l)
 unfolding skipped
-admitted_skipped k Nothing B l f = f
-admitted_skipped k (At g) B l f = admitted_empties k g.0 _ l f
+admitted_skipped k None B l f = f
+admitted_skipped k (Some g) B l f = admitted_empties k g.0 _ l f
 
 pub admitted_singly : (k : Board) (l : Log) → Rising l → Admitted (λ g. (run k g).pending) l → Admitted (left_by k) (singly l)
 unfolding singly Rising

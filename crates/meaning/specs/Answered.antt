@@ -1,9 +1,7 @@
 -- What the calls of a run answer, from the log; what every run comes to; and the promise said again in other words. Assumes nothing.
-use Rattle.std.specs.Prelude.{◌≡◌, ℕ, zero, suc, ◌+◌, ◌*◌, ◌%◌, ◌≤◌, Bool, true, false, not, ◌&&◌, cond, List, [], ◌∷◌, leb, ltb, eqb, length, Float}
-use Rattle.std.proofs.Math.Option.{Option, none}
+use Rattle.std.specs.Prelude.{◌≡◌, ℕ, zero, suc, ◌+◌, ◌*◌, ◌%◌, ◌≤◌, Bool, true, false, not, ◌&&◌, cond, List, [], ◌∷◌, leb, ltb, eqb, length, Float, Option, None, Some}
 use Rattle.kinds.specs.declared.Blocks.{Blocks}
-use Rattle.kinds.specs.declared.Last.{Last}
-use Rattle.kinds.specs.declared.Last.TheVariants.{Nothing, At}
+use Rattle.kinds.specs.Last.{Last}
 use Rattle.kinds.specs.Answers.{Answer, done, below_floor, already_pending, pending_full, absent, bad_list, gap_too_wide, confirmed_full}
 use Rattle.rules.specs.Lists.{any, count}
 use Rattle.rules.specs.Ids.{Id, same}
@@ -32,8 +30,8 @@ waiting k l i = any (λ a. pends k a && same a.id i) (admissions l)
 
 -- B is more than 4,096 above the last height
 unfoldable pub too_far : Last → ℕ → Bool
-too_far Nothing B = false
-too_far (At g) B = ltb (g.0 + 4096) B
+too_far None B = false
+too_far (Some g) B = ltb (g.0 + 4096) B
 
 -- The answer of the next call. Never 1. Enter: 16 if the rate is below the floor, else 2 if an admission of the id is pending, else 3 if as many are as the lent
 -- table holds. Leave: 4 if none of the id is. Block: 5 by the list's length, else 6 by the last height, else 7 if the confirmed
@@ -60,7 +58,7 @@ column_made which k l c b (suc n) = count_of which k l b c ∷ column_made which
 unfoldable pub estimate_made : Board → Log → ℕ → Option ℕ
 estimate_made k l target =
     let c = column_of k target in
-    cond (eqb target 0) none (sums_down_to 0 (column_made in_confirmed k l c 0 buckets) (column_made in_resolved k l c 0 buckets)).rate
+    cond (eqb target 0) None (sums_down_to 0 (column_made in_confirmed k l c 0 buckets) (column_made in_resolved k l c 0 buckets)).rate
 
 -- ---- the promise
 

@@ -2,7 +2,7 @@
 -- at most 25 times the admissions. Assumes nothing.
 use Rattle.std.specs.Prelude.{◌≡◌, ℕ, suc, ◌+◌, ◌*◌, ◌≤◌, cond, List, [], ◌∷◌, eqb, length}
 use Rattle.kinds.specs.declared.Height.{Height}
-use Rattle.kinds.specs.declared.Last.{Last}
+use Rattle.kinds.specs.Last.{Last}
 use Rattle.kinds.specs.Answers.{done}
 use Rattle.rules.specs.Ids.{Id}
 use Rattle.rules.specs.Ladder.{buckets}

@@ -1,7 +1,6 @@
 -- Success between none and all (document 02, L13), of the rounded numbers: after a fresh start and blocks that rise, each count is finite and not negative, no
 -- confirmed count is above its resolved count, and each ratio that an estimate forms is from 0.0 to 1.0. Assumes nothing.
-use Rattle.std.specs.Prelude.{◌≡◌, ℕ, suc, ◌≤◌, ◌<◌, List, T, drop, Float}
-use Rattle.std.proofs.Math.Option.{none}
+use Rattle.std.specs.Prelude.{◌≡◌, ℕ, suc, ◌≤◌, ◌<◌, List, T, drop, Float, None}
 use Rattle.std.specs.Float.{binary64}
 use Rattle.std.specs.Float.Ieee.{div, le}
 use Rattle.kinds.specs.Answers.{done}
@@ -32,7 +31,7 @@ sums_at k target b confirmed resolved = sums_down_to b (drop b (column buckets (
 pub record Walk (k : Board) (target : ℕ) (confirmed resolved : Counts) : Type 0 where
   pub goes_down : (b : ℕ) → b < buckets → sums_at k target b confirmed resolved
       ≡ add_bucket b (cell confirmed b (column_of k target)) (cell resolved b (column_of k target)) (sums_at k target (suc b) confirmed resolved)
-  pub begins : sums_at k target buckets confirmed resolved ≡ record { confirmed = nought; resolved = nought; rate = none }
+  pub begins : sums_at k target buckets confirmed resolved ≡ record { confirmed = nought; resolved = nought; rate = None }
   pub ends : 1 ≤ target → estimate k target confirmed resolved ≡ (sums_at k target 0 confirmed resolved).rate
 
 -- the walk of an estimate, for every target and all counts

@@ -1,4 +1,5 @@
 -- What a search tells of the place where a new record goes in: those before it are not above it, and those from there on are. Assumes nothing.
+use Rattle.std.specs.Prelude.{Ok, Err}
 use mathlib.Core.Path.{◌≡◌, refl, ap, subst, ◌∙◌}
 use mathlib.Core.Bool.{true, false}
 use mathlib.Core.List.{List, ◌∷◌, map}
@@ -9,10 +10,9 @@ use Rattle.rules.specs.Ids.{Id, below}
 use Rattle.rules.proofs.All.{All, none, more}
 use Rattle.rules.proofs.Ids.{Up, end, step, below_asym, all_above}
 use Rattle.ids.specs.Search.{cmp, is_less, decide, find_from}
-use Rattle.ids.specs.declared.order.Order.{Order}
-use Rattle.ids.specs.declared.order.Order.TheVariants.{Less, Equal, Greater}
-use Rattle.ids.specs.declared.Found.{Found}
-use Rattle.ids.specs.declared.Found.TheVariants.{At, Gap}
+use Rattle.std.specs.Ordering.{Ordering}
+use Rattle.std.specs.Ordering.{Less, Equal, Greater}
+use Rattle.ids.specs.Search.{Found}
 use Rattle.ids.proofs.Ids.{below_cmp_is, cmp_equal, cmp_refl, cmp_above}
 use Rattle.ids.proofs.Search.{at_told, gap_told}
 use Rattle.merges.specs.New.{rank_of}
@@ -31,8 +31,8 @@ module _ {A : Type 0} (id : A → Id) (x : A) where
   ranked_from k end = (0, (omega arith, record { low = none; high = none }))
   ranked_from k (step {r = c} {rs = cs} a u) = go (cmp (id c) (id x)) refl (ranked_from (suc k) u)
     where
-      go : (o : Order) → cmp (id c) (id x) ≡ o → (i : ℕ) × ((rank_of (find_from (id x) (suc k) (map id cs)) ≡ suc k + i) × Ranked cs i)
-          → (i : ℕ) × ((rank_of (decide o (find_from (id x) (suc k) (map id cs)) (At k) (Gap k)) ≡ k + i) × Ranked (c ∷ cs) i)
+      go : (o : Ordering) → cmp (id c) (id x) ≡ o → (i : ℕ) × ((rank_of (find_from (id x) (suc k) (map id cs)) ≡ suc k + i) × Ranked cs i)
+          → (i : ℕ) × ((rank_of (decide o (find_from (id x) (suc k) (map id cs)) (Ok k) (Err k)) ≡ k + i) × Ranked (c ∷ cs) i)
       go Less e t =
           let no : below (id x) (id c) ≡ false = below_asym (id c) (id x) (below_cmp_is (id c) (id x) ∙ ap is_less e) in
           (suc t.0, (omega (arith, t.1.0), record { low = more no t.1.1.low; high = t.1.1.high }))
@@ -55,5 +55,5 @@ pub rank_within : (i : Id) (js : List Id) (r : ℕ) → r ≡ rank_of (find_from
 rank_within i js r e = go (find_from i 0 js) refl e
   where
     go : (f : Found) → find_from i 0 js ≡ f → r ≡ rank_of f → r ≤ length js
-    go (At n) q z = omega (arith, (at_told i js n q).within)
-    go (Gap n) q z = omega (arith, (gap_told i js n q).within)
+    go (Ok n) q z = omega (arith, (at_told i js n q).within)
+    go (Err n) q z = omega (arith, (gap_told i js n q).within)

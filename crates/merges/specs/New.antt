@@ -1,12 +1,11 @@
 -- The confirmed record that a pending record gets, in bytes, and how it goes in among the others. Assumes nothing.
-use Rattle.std.specs.Prelude.{ℕ, ◌+◌, ◌-◌, ◌*◌, ◌≤◌, ◌≡◌, true, List, map, length}
+use Rattle.std.specs.Prelude.{ℕ, ◌+◌, ◌-◌, ◌*◌, ◌≤◌, ◌≡◌, true, List, map, length, Ok, Err}
 use Rattle.std.proofs.lemmas.List.Edits.{sets}
 use Rattle.rules.specs.Ids.{rising}
 use Rattle.rules.specs.Board.{confirmed_size, confirmed_bytes}
 use Rattle.rules.specs.Records.{records, id_of}
 use Rattle.mem.specs.Moves.{shifted_up}
-use Rattle.ids.specs.declared.Found.{Found}
-use Rattle.ids.specs.declared.Found.TheVariants.{At, Gap}
+use Rattle.ids.specs.Search.{Found}
 use Rattle.batch.specs.Picked.{picked}
 
 -- its id and the height
@@ -15,8 +14,8 @@ at_height B r = confirmed_bytes (record { id = id_of r; height = B })
 
 -- how many of rising ids do not stand above one, as a search for it tells
 abbrev pub rank_of : Found → ℕ
-rank_of (At n) = n + 1
-rank_of (Gap n) = n
+rank_of (Ok n) = n + 1
+rank_of (Err n) = n
 
 -- the confirmed records from number i to n have moved up by `left` places, and the bytes r stand below them
 unfoldable pub opened : ℕ → ℕ → ℕ → List ℕ → List ℕ → List ℕ

@@ -9,7 +9,7 @@ use lib.Dec.{T, eqb}
 use lib.ListN.{length}
 use lib.Pow.{are_bytes}
 use borrow.Author.Tests.{le-ltb, eq-eqb, eqb-false}
-use Rattle.kinds.specs.declared.Last.{Last}
+use Rattle.kinds.specs.Last.{Last}
 use Rattle.kinds.specs.declared.State.{State}
 use Rattle.kinds.specs.Answers.{Answer, done, damaged, below_floor, already_pending, pending_full, absent}
 use Rattle.rules.specs.Ids.{Id, same}

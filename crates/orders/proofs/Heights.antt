@@ -8,8 +8,8 @@ use mathlib.Core.List.{List, [], ◌∷◌}
 use lib.Dec.{ltb}
 use lib.ListN.{length}
 use borrow.Author.Tests.{ltb-true, lt-ltb, le-ltb}
-use Rattle.kinds.specs.declared.Last.{Last}
-use Rattle.kinds.specs.declared.Last.TheVariants.{Nothing, At}
+use Rattle.kinds.specs.Last.{Last}
+use Rattle.std.specs.Prelude.{None, Some}
 use Rattle.rules.specs.Ids.{Id}
 use Rattle.rules.specs.Board.{Board}
 use Rattle.rules.specs.Estimator.{Estimator, advance_height, advances, advance_heights, skip_heights, confirm_all, finish_block, block_connected}
@@ -19,7 +19,7 @@ use Rattle.orders.specs.Gaps.{climbing, last_of, empty_steps, GapSteps}
 
 -- a height as a last height
 abbrev pub at : ℕ → Last
-at L = At (record { 0 = L })
+at L = Some (record { 0 = L })
 
 -- climbing heights end above the first
 pub under : (L : ℕ) (hs : List ℕ) (B : ℕ) → climbing L hs B ≡ true → L < B
@@ -114,7 +114,7 @@ module _ (k : Board) where
   room_many hs e L a B ids c = ap (λ (x : Estimator). length (confirm_all k B ids x).recent) (skips_many hs e L a B c).0
 
   -- with no last height
-  first_empty : (e : Estimator) → e.last ≡ Nothing → (h : ℕ) → block_connected k [] h e ≡ advance_height k h e
+  first_empty : (e : Estimator) → e.last ≡ None → (h : ℕ) → block_connected k [] h e ≡ advance_height k h e
   unfolding block_connected finish_block advances skip_heights confirm_all
   first_empty e a h = rw a
 

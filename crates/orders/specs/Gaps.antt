@@ -1,8 +1,7 @@
 -- Heights that no block came for: blocks that list nothing, on the way to a block, change nothing of what that block leaves, nor of the room that it finds. So a
 -- caller crosses a gap that is too wide for one call. Assumes nothing.
-use Rattle.std.specs.Prelude.{◌≡◌, ℕ, ◌-◌, ◌%◌, ◌^◌, ◌≤◌, ◌<◌, Bool, true, ◌&&◌, cond, List, [], ◌∷◌, leb, ltb, eqb, length}
+use Rattle.std.specs.Prelude.{◌≡◌, ℕ, ◌-◌, ◌%◌, ◌^◌, ◌≤◌, ◌<◌, Bool, true, ◌&&◌, cond, List, [], ◌∷◌, leb, ltb, eqb, length, None, Some}
 use Rattle.kinds.specs.declared.State.{State}
-use Rattle.kinds.specs.declared.Last.TheVariants.{Nothing, At}
 use Rattle.kinds.specs.Answers.{done, gap_too_wide, confirmed_full}
 use Rattle.rules.specs.Ids.{Id}
 use Rattle.rules.specs.Board.{Board}
@@ -38,15 +37,15 @@ empty_steps k (h ∷ hs) e = empty_steps k hs (block_connected k [] h e)
 -- what blocks that list nothing do, on the way to a block at B
 pub record GapSteps (k : Board) (e : Estimator) : Type 0 where
   -- one of them, above the last height and below B, changes nothing of what the block at B leaves
-  pub one : (L h B : ℕ) (ids : List Id) → e.last ≡ At (record { 0 = L }) → L < h → h < B → block_connected k ids B (block_connected k [] h e) ≡ block_connected k ids B e
+  pub one : (L h B : ℕ) (ids : List Id) → e.last ≡ Some (record { 0 = L }) → L < h → h < B → block_connected k ids B (block_connected k [] h e) ≡ block_connected k ids B e
   -- nor do any number of them that climb
-  pub many : (L : ℕ) (hs : List ℕ) (B : ℕ) (ids : List Id) → e.last ≡ At (record { 0 = L }) → climbing L hs B ≡ true → block_connected k ids B (empty_steps k hs e) ≡ block_connected k ids B e
+  pub many : (L : ℕ) (hs : List ℕ) (B : ℕ) (ids : List Id) → e.last ≡ Some (record { 0 = L }) → climbing L hs B ≡ true → block_connected k ids B (empty_steps k hs e) ≡ block_connected k ids B e
   -- The block at B finds the room that it would have found without them.
-  pub room : (L : ℕ) (hs : List ℕ) (B : ℕ) (ids : List Id) → e.last ≡ At (record { 0 = L }) → climbing L hs B ≡ true → held_once_listed k ids B (empty_steps k hs e) ≡ held_once_listed k ids B e
+  pub room : (L : ℕ) (hs : List ℕ) (B : ℕ) (ids : List Id) → e.last ≡ Some (record { 0 = L }) → climbing L hs B ≡ true → held_once_listed k ids B (empty_steps k hs e) ≡ held_once_listed k ids B e
   -- one that is not above the last height does nothing at all
-  pub below : (L h : ℕ) → e.last ≡ At (record { 0 = L }) → h ≤ L → block_connected k [] h e ≡ e
+  pub below : (L h : ℕ) → e.last ≡ Some (record { 0 = L }) → h ≤ L → block_connected k [] h e ≡ e
   -- With no last height there is no gap: it is the first block, and advances its one height.
-  pub first : (h : ℕ) → e.last ≡ Nothing → block_connected k [] h e ≡ advance_height k h e
+  pub first : (h : ℕ) → e.last ≡ None → block_connected k [] h e ≡ advance_height k h e
 
 -- ---- the calls
 
@@ -87,5 +86,5 @@ pub record Crossed (k : Board) (s : State) (l : Lent) (L : ℕ) (hs ids : List �
 -- of document 01's steps, whatever the estimator; and of the calls, on whatever sound memory that has a last height
 pub record GapPromise (k : Board) : Type 0 where
   pub steps : (e : Estimator) → GapSteps k e
-  pub calls : (s : State) (l : Lent) → Typed l → sound k s l ≡ true → (L : ℕ) → s.last ≡ At (record { 0 = L })
+  pub calls : (s : State) (l : Lent) → Typed l → sound k s l ≡ true → (L : ℕ) → s.last ≡ Some (record { 0 = L })
       → (hs ids : List ℕ) (B : ℕ) → climbing L hs B ≡ true → near L hs ≡ true → B < 2 ^ 32 → Crossed k s l L hs ids B

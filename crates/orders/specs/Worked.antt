@@ -1,9 +1,8 @@
 -- Worked cases of the base board: an entry and a leave of one id do not commute, the edges of the laws, and blocks across a gap. Assumes nothing.
-use Rattle.std.specs.Prelude.{ℕ, refl, Bool, not, ◌&&◌, List, [], ◌∷◌, ◌++◌, eqb, replicate}
+use Rattle.std.specs.Prelude.{ℕ, refl, Bool, not, ◌&&◌, List, [], ◌∷◌, ◌++◌, eqb, replicate, None, Some}
 use Rattle.std.proofs.Common.{lit<}
 use Rattle.kinds.specs.declared.State.{State}
-use Rattle.kinds.specs.declared.Last.{Last}
-use Rattle.kinds.specs.declared.Last.TheVariants.{Nothing, At}
+use Rattle.kinds.specs.Last.{Last}
 use Rattle.rules.specs.Ids.{Id, same}
 use Rattle.rules.specs.Board.{base}
 use Rattle.rules.specs.Counts.{one, no_counts}
@@ -43,7 +42,7 @@ leaves n = leaving base (id n)
 
 -- a state with n pending records
 abbrev pub used : ℕ → State
-used n = record { last = Nothing; pending = n; recent = 0 }
+used n = record { last = None; pending = n; recent = 0 }
 
 -- a place with nothing in it
 abbrev pub free : List ℕ
@@ -119,20 +118,20 @@ no_place = lent no_counts no_counts (taken 7) (id 9 ++ (50 ∷ 0 ∷ 0 ∷ 0 ∷
 
 -- the last height is 100, and both tables are full
 abbrev pub full : State
-full = record { last = At (record { 0 = 100 }); pending = 1; recent = 1 }
+full = record { last = Some (record { 0 = 100 }); pending = 1; recent = 1 }
 
 -- the cases
 unfoldable pub worked_gaps : List Bool
 worked_gaps =
     -- The last height is 100: at 101 and 102, and at 100 and below, the block before changes nothing.
-    as_alone_after 101 (At (record { 0 = 100 }))
-    ∷ as_alone_after 102 (At (record { 0 = 100 }))
-    ∷ as_alone_after 100 (At (record { 0 = 100 }))
-    ∷ as_alone_after 99 (At (record { 0 = 100 }))
+    as_alone_after 101 (Some (record { 0 = 100 }))
+    ∷ as_alone_after 102 (Some (record { 0 = 100 }))
+    ∷ as_alone_after 100 (Some (record { 0 = 100 }))
+    ∷ as_alone_after 99 (Some (record { 0 = 100 }))
     -- At 103 itself it decays before the listed are counted.
-    ∷ not (as_alone_after 103 (At (record { 0 = 100 })))
+    ∷ not (as_alone_after 103 (Some (record { 0 = 100 })))
     -- With no last height it is the first block, and decays.
-    ∷ not (as_alone_after 102 Nothing)
+    ∷ not (as_alone_after 102 None)
     -- A block at 102 alone finds room, since height 101 lets the old record go, and it finds the same after one at 101 that lists nothing. At 101 it is ConfirmedFull.
     ∷ eqb (alone base (id 7) 101 full no_place).answer.number 7
     ∷ eqb (alone base (id 7) 102 full no_place).answer.number 0

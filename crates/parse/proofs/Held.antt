@@ -8,7 +8,7 @@ use native.Mathlib.Omega.{arith}
 use lib.Dec.{T}
 use lib.ListN.{length, drop, length-map}
 use lib.Pow.{are_bytes}
-use Rattle.kinds.specs.declared.Last.{Last}
+use Rattle.kinds.specs.Last.{Last}
 use Rattle.rules.specs.Records.{records}
 use Rattle.rules.specs.Board.{confirmed_size, confirmed_of}
 use Rattle.rules.specs.Estimator.{Estimator}

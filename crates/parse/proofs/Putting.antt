@@ -5,8 +5,8 @@ use Prim.Native.Nat.{ℕ, ◌+◌}
 use native.Mathlib.Omega.{arith}
 use lib.ListN.{length}
 use lib.Seq.{sets}
-use Rattle.kinds.specs.declared.Last.{Last}
-use Rattle.kinds.specs.declared.Last.TheVariants.{Nothing, At}
+use Rattle.kinds.specs.Last.{Last}
+use Rattle.std.specs.Prelude.{None, Some}
 use Rattle.rules.specs.Bytes.{bytes}
 use Rattle.rules.specs.Records.{joined}
 use Rattle.rules.proofs.Bytes.{length_bytes}
@@ -14,11 +14,11 @@ use Rattle.format.specs.File.{Version, magic, last_bytes, head_bytes}
 use Rattle.lists.proofs.Sets.{sets_append}
 
 module _ (o : List ℕ) (at : ℕ) where
-  pub put_none : sets (sets o at (0 ∷ [])) (at + 1) (bytes 4 142) ≡ sets o at (last_bytes Nothing ++ bytes 4 142)
+  pub put_none : sets (sets o at (0 ∷ [])) (at + 1) (bytes 4 142) ≡ sets o at (last_bytes None ++ bytes 4 142)
   unfolding last_bytes
   put_none = sym (sets_append o at (0 ∷ []) (bytes 4 142))
 
-  pub put_at : (h : ℕ) → sets (sets (sets o at (1 ∷ [])) (at + 1) (bytes 4 h)) (at + 5) (bytes 4 142) ≡ sets o at (last_bytes (At (record { 0 = h })) ++ bytes 4 142)
+  pub put_at : (h : ℕ) → sets (sets (sets o at (1 ∷ [])) (at + 1) (bytes 4 h)) (at + 5) (bytes 4 142) ≡ sets o at (last_bytes (Some (record { 0 = h })) ++ bytes 4 142)
   unfolding last_bytes
   put_at h =
       let e : at + 5 ≡ at + length (1 ∷ bytes 4 h) = omega (arith, length_bytes 4 h) in

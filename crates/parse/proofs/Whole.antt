@@ -8,8 +8,8 @@ use lib.Dec.{leb, eqb}
 use lib.ListN.{length, take, drop, length-drop}
 use lib.Seq.{drop-drop}
 use borrow.Author.Tests.{leb-true}
-use Rattle.kinds.specs.declared.Last.{Last}
-use Rattle.kinds.specs.declared.Last.TheVariants.{Nothing, At}
+use Rattle.kinds.specs.Last.{Last}
+use Rattle.std.specs.Prelude.{None, Some}
 use Rattle.kinds.specs.Answers.{Answer, bad_magic, unknown_version, corrupt}
 use Rattle.rules.specs.Ids.{same}
 use Rattle.rules.specs.Ladder.{buckets}
@@ -79,9 +79,9 @@ follows_number n m = follows_then (takes n) (λ bs. give (le bs)) m (λ _. m + n
 
 follows_flagged : (m n : ℕ) → Follows (read_flagged n) m (λ l. m + height_length l)
 unfolding read_flagged
-follows_flagged m zero = follows_give Nothing m (λ l. m + height_length l) (omega arith)
+follows_flagged m zero = follows_give None m (λ l. m + height_length l) (omega arith)
 follows_flagged m (suc zero) =
-    follows_then (number 4) _ m (λ _. m + 4) (λ l. m + height_length l) (follows_number 4 m) (λ h. follows_give (At (record { 0 = h })) (m + 4) (λ l. m + height_length l) refl)
+    follows_then (number 4) _ m (λ _. m + 4) (λ l. m + height_length l) (follows_number 4 m) (λ h. follows_give (Some (record { 0 = h })) (m + 4) (λ l. m + height_length l) refl)
 follows_flagged m (suc (suc n)) = follows_refuse corrupt m (λ l. m + height_length l)
 
 follows_with : (m : ℕ) (g : Last → ℕ) (l : Last) → m + 4 ≡ g l → Follows (with_bucket_count l) m g

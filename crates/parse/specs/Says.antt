@@ -1,6 +1,6 @@
 -- What the answer of the reading says of the whole file. Assumes nothing.
 use Rattle.std.specs.Prelude.{List, ℕ, ◌+◌, ◌*◌, length}
-use Rattle.kinds.specs.declared.Last.{Last}
+use Rattle.kinds.specs.Last.{Last}
 use Rattle.kinds.specs.Answers.{bad_magic, unknown_version, corrupt}
 use Rattle.rules.specs.Ladder.{buckets}
 use Rattle.rules.specs.Estimator.{Estimator}

@@ -1,8 +1,7 @@
 -- Whether a file goes with a chain, in plain words: the file's last height is at most the chain's and at most 4,096 below it. Only a block above the last height makes
 -- anything decay, expire or be pruned, and a block more than 4,096 above it is refused. Assumes nothing.
-use Rattle.std.specs.Prelude.{ℕ, ◌-◌, cond, List, [], ◌∷◌, ltb}
-use Rattle.kinds.specs.declared.Last.{Last}
-use Rattle.kinds.specs.declared.Last.TheVariants.{Nothing, At}
+use Rattle.std.specs.Prelude.{ℕ, ◌-◌, cond, List, [], ◌∷◌, ltb, None, Some}
+use Rattle.kinds.specs.Last.{Last}
 use Rattle.rules.specs.Calls.{widest_gap}
 use Rattle.print.specs.Text.{Text, codes}
 use Rattle.print.specs.Numerals.{decimal}
@@ -40,5 +39,5 @@ no_last = codes "premise holds: there is no last height, and the first block set
 -- what is said of a file's last height, where the chain's height is told
 unfoldable pub premise : Chain → Last → List Text
 premise Untold last = []
-premise (Tip n) Nothing = no_last
-premise (Tip n) (At h) = beside h.0 n.0
+premise (Tip n) None = no_last
+premise (Tip n) (Some h) = beside h.0 n.0

@@ -2,7 +2,7 @@
 use mathlib.Core.Path.{◌≡◌, refl, ap}
 use mathlib.Core.Bool.{Bool, true, false, cond}
 use mathlib.Core.List.{List, ◌++◌}
-use mathlib.Core.Option.{Option, none, some}
+use Rattle.std.specs.Prelude.{Option, None, Some}
 use Prim.Native.Nat.{ℕ}
 use lib.Dec.{T, eqb, eqb→eq}
 use lib.Ieee.{Float}
@@ -29,8 +29,8 @@ use Rattle.report.proofs.Targets.{lines_same}
 
 carried_is : (o : Option ℕ) → carried_rate (rate_answer o).carries ≡ rate_text o
 unfolding carried_rate rate_answer rate_text
-carried_is none = refl
-carried_is (some r) = refl
+carried_is None = refl
+carried_is (Some r) = refl
 
 answered_is : (on : Horizon) (s : State) (c r : List Float) → sound_counts c ≡ true → sound_counts r ≡ true → (t : ℕ) → answered s c r on t ≡ rate_text (estimate (board_of on) t c r)
 unfolding answered estimate_call

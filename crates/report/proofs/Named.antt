@@ -8,8 +8,8 @@ use lib.Dec.{T, eqb}
 use lib.ListN.{length, take, drop, length-take, length-drop}
 use lib.Pow.{are_bytes}
 use Rattle.kinds.specs.declared.Horizon.{Horizon}
-use Rattle.kinds.specs.declared.Last.{Last}
-use Rattle.kinds.specs.declared.Last.TheVariants.{Nothing, At}
+use Rattle.kinds.specs.Last.{Last}
+use Rattle.std.specs.Prelude.{None, Some}
 use Rattle.rules.specs.Ids.{same}
 use Rattle.rules.specs.Bytes.{le, bytes}
 use Rattle.rules.specs.Records.{joined}
@@ -55,7 +55,7 @@ read_names on file b e r = ap named_by (sym (read_is_written (version_of on) (ve
 pub not_too_long : (on : Horizon) (last : Last) (pending recent : ℕ) → pending ≤ of_inspect.pending → recent ≤ of_inspect.recent
     → history_length (version_of on) last pending recent ≤ of_inspect.longest
 unfolding history_length bytes
-not_too_long Horizon.Base Nothing pending recent h k = omega arith
-not_too_long Horizon.Base (At _) pending recent h k = omega arith
-not_too_long Horizon.Wide Nothing pending recent h k = omega arith
-not_too_long Horizon.Wide (At _) pending recent h k = omega arith
+not_too_long Horizon.Base None pending recent h k = omega arith
+not_too_long Horizon.Base (Some _) pending recent h k = omega arith
+not_too_long Horizon.Wide None pending recent h k = omega arith
+not_too_long Horizon.Wide (Some _) pending recent h k = omega arith

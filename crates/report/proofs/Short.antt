@@ -8,8 +8,8 @@ use lib.Dec.{ltb}
 use lib.ListN.{length, length-append}
 use lib.Ieee.{Float}
 use Rattle.kinds.specs.declared.Horizon.{Horizon}
-use Rattle.kinds.specs.declared.Last.{Last}
-use Rattle.kinds.specs.declared.Last.TheVariants.{Nothing, At}
+use Rattle.kinds.specs.Last.{Last}
+use Rattle.std.specs.Prelude.{None, Some}
 use Rattle.kinds.specs.declared.State.{State}
 use Rattle.kinds.specs.declared.ReadAnswer.{ReadAnswer}
 use Rattle.kinds.specs.Answers.{read_answer}
@@ -44,8 +44,8 @@ rate_short (r ∷ rs) = decimal_short r
 
 last_short : (l : Last) → length (last_text l) ≤ 20
 unfolding last_text
-last_short Nothing = omega arith
-last_short (At h) = decimal_short h.0
+last_short None = omega arith
+last_short (Some h) = decimal_short h.0
 
 length_joined : (a b : List Text) → length (joined (a ++ b)) ≡ length (joined a) + length (joined b)
 unfolding joined
@@ -81,8 +81,8 @@ beside_short h n = go (ltb n h) (ltb widest_gap (n - h)) (decimal_short h) (deci
 premise_short : (chain : Chain) (l : Last) → length (joined (premise chain l)) ≤ 250
 unfolding joined premise no_last
 premise_short Untold l = omega arith
-premise_short (Tip n) Nothing = omega arith
-premise_short (Tip n) (At h) = beside_short h.0 n.0
+premise_short (Tip n) None = omega arith
+premise_short (Tip n) (Some h) = beside_short h.0 n.0
 
 pub told_short : (chain : Chain) (on : Horizon) (a : ReadAnswer) (s : State) (f : ℕ → Text) → ((t : ℕ) → length (f t) ≤ 20) → length (joined (told chain on (read_answer a) s f)) ≤ 2048
 unfolding told refusal name carried joined

@@ -1,11 +1,9 @@
 -- What `show` and `inspect` print of a history file, in document 01's words: one definition, over how much a program takes in, the chain's height and the board whose file it
 -- is. A line is told in pieces. Assumes nothing.
-use Rattle.std.specs.Prelude.{ℕ, zero, suc, ◌*◌, cond, List, [], ◌∷◌, ◌++◌, ltb, eqb, length, take, drop, replicate}
-use Rattle.std.proofs.Math.Option.{Option, none, some}
+use Rattle.std.specs.Prelude.{ℕ, zero, suc, ◌*◌, cond, List, [], ◌∷◌, ◌++◌, ltb, eqb, length, take, drop, replicate, Option, None, Some}
 use Rattle.std.proofs.lemmas.List.Edits.{sets}
 use Rattle.kinds.specs.declared.Horizon.{Horizon}
-use Rattle.kinds.specs.declared.Last.{Last}
-use Rattle.kinds.specs.declared.Last.TheVariants.{Nothing, At}
+use Rattle.kinds.specs.Last.{Last}
 use Rattle.kinds.specs.declared.State.{State}
 use Rattle.kinds.specs.Answers.{Answer}
 use Rattle.rules.specs.Ids.{same}
@@ -31,8 +29,8 @@ line word text = word ∷ text ∷ end ∷ []
 
 -- the last height or `-`
 unfoldable pub last_text : Last → Text
-last_text Nothing = dash
-last_text (At h) = decimal h.0
+last_text None = dash
+last_text (Some h) = decimal h.0
 
 -- `height H`, `pending N`, `confirmed N`: the last height or `-`, used numbers
 unfoldable pub state_lines : State → List Text
@@ -40,8 +38,8 @@ state_lines s = line height (last_text s.last) ++ line pending (decimal s.pendin
 
 -- a rate or `-`
 unfoldable pub rate_text : Option ℕ → Text
-rate_text none = dash
-rate_text (some r) = decimal r
+rate_text None = dash
+rate_text (Some r) = decimal r
 
 -- a target and its rate, on a line
 unfoldable pub target_line : (ℕ → Text) → ℕ → List Text

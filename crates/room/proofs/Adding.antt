@@ -1,5 +1,6 @@
 -- A pending record that makes one confirmed record more, as the code finds it out: by its mark, by what the skipped heights leave, and by a search for its id
 -- among the confirmed records. Assumes nothing.
+use Rattle.std.specs.Prelude.{Ok, Err}
 use mathlib.Core.Path.{◌≡◌, refl, sym, ap, ap₂, ◌∙◌}
 use mathlib.Core.Bool.{Bool, true, false, not, ◌&&◌, ◌||◌}
 use mathlib.Core.List.{List, [], ◌∷◌, map}
@@ -8,14 +9,13 @@ use native.Mathlib.Nat.{zero-add}
 use lib.Dec.{leb, eqb}
 use lib.ListN.{get_or}
 use borrow.Author.Tests.{eq-eqb, ne_eqb}
-use Rattle.kinds.specs.declared.Last.{Last}
+use Rattle.kinds.specs.Last.{Last}
 use Rattle.rules.specs.Lists.{any}
 use Rattle.rules.specs.Ids.{Id, same, rising}
 use Rattle.rules.specs.Records.{records, id_of}
 use Rattle.rules.specs.Board.{Board, Pending, Confirmed, confirmed_size, confirmed_of}
 use Rattle.rules.specs.Memory.{confirmed_records}
 use Rattle.ids.specs.Search.{find_in}
-use Rattle.ids.specs.declared.Found.TheVariants.{At, Gap}
 use Rattle.table.proofs.View.{gap_test, at_test}
 use Rattle.room.specs.Room.{lasts_through, least_height, held_above, comes_new}
 
@@ -35,11 +35,11 @@ module _ (least : ℕ) (i : Id) (used n : ℕ) (xs : List ℕ) (up : rising (map
   unfolding held_above confirmed_records confirmed_of
   seen = any_map confirmed_of (λ c. same c.id i && leb least c.height) (records confirmed_size used xs)
 
-  pub held_there : find_in i (map id_of (records confirmed_size used xs)) ≡ At n → (v : ℕ) → v ≡ (confirmed_of (get_or (records confirmed_size used xs) n [])).height
+  pub held_there : find_in i (map id_of (records confirmed_size used xs)) ≡ Ok n → (v : ℕ) → v ≡ (confirmed_of (get_or (records confirmed_size used xs) n [])).height
       → leb least v ≡ held_above least (confirmed_records used xs) i
   held_there f v e = ap (leb least) e ∙ sym (seen ∙ at_test id_of high [] i 0 n (records confirmed_size used xs) up (rw zero-add f))
 
-  pub held_nowhere : find_in i (map id_of (records confirmed_size used xs)) ≡ Gap n → false ≡ held_above least (confirmed_records used xs) i
+  pub held_nowhere : find_in i (map id_of (records confirmed_size used xs)) ≡ Err n → false ≡ held_above least (confirmed_records used xs) i
   held_nowhere f = sym (seen ∙ gap_test id_of high i n (records confirmed_size used xs) up f)
 
 -- ---- what it comes to

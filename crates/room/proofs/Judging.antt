@@ -8,7 +8,7 @@ use native.Mathlib.Omega.{arith}
 use lib.Dec.{leb}
 use borrow.Author.Tests.{le-leb}
 use Rattle.kinds.specs.declared.Height.{Height}
-use Rattle.kinds.specs.declared.Last.{Last}
+use Rattle.kinds.specs.Last.{Last}
 use Rattle.kinds.specs.declared.State.{State}
 use Rattle.rules.specs.Lists.{count}
 use Rattle.rules.specs.Ids.{Id}

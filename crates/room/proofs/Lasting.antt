@@ -7,8 +7,8 @@ use native.Mathlib.Omega.{arith}
 use lib.Dec.{leb, ltb}
 use borrow.Author.Tests.{leb-true, leb-false, le-leb, lt-leb, ltb-true, ltb-false, lt-ltb, le-ltb}
 use Rattle.kinds.specs.declared.Height.{Height}
-use Rattle.kinds.specs.declared.Last.{Last}
-use Rattle.kinds.specs.declared.Last.TheVariants.{Nothing, At}
+use Rattle.kinds.specs.Last.{Last}
+use Rattle.std.specs.Prelude.{None, Some}
 use Rattle.rules.specs.Lists.{any}
 use Rattle.rules.specs.Ids.{Id, same}
 use Rattle.rules.specs.Counts.{columns}
@@ -20,36 +20,36 @@ use Rattle.room.specs.Room.{last_skipped, least_height, lasts_through, held_abov
 -- ---- which it is
 
 module _ (last : Last) (B : ℕ) where
-  pub no_last : last ≡ Nothing → Nothing ≡ last_skipped last B
+  pub no_last : last ≡ None → None ≡ last_skipped last B
   unfolding last_skipped skips
   no_last e = sym (rw e)
 
-  pub none_skipped : {low : Height} → last ≡ At low → B - 1 ≤ low.0 → Nothing ≡ last_skipped last B
+  pub none_skipped : {low : Height} → last ≡ Some low → B - 1 ≤ low.0 → None ≡ last_skipped last B
   unfolding last_skipped skips
   none_skipped {low} e h = sym (rw (e, le-ltb (suc low.0) B (omega arith)))
 
-  pub some_skipped : {low : Height} → last ≡ At low → low.0 < B - 1 → At (record { 0 = B - 1 }) ≡ last_skipped last B
+  pub some_skipped : {low : Height} → last ≡ Some low → low.0 < B - 1 → Some (record { 0 = B - 1 }) ≡ last_skipped last B
   unfolding last_skipped skips
   some_skipped {low} e h = sym (rw (e, lt-ltb (suc low.0) B (omega arith)))
 
 -- ---- what the code finds out by it
 
 module _ (skipped : Last) where
-  pub least_none : skipped ≡ Nothing → 0 ≡ least_height skipped
+  pub least_none : skipped ≡ None → 0 ≡ least_height skipped
   unfolding least_height
   least_none e = sym (rw e)
 
-  pub least_some : {h : Height} (n : ℕ) → skipped ≡ At h → n ≡ h.0 - prune_window → n ≡ least_height skipped
+  pub least_some : {h : Height} (n : ℕ) → skipped ≡ Some h → n ≡ h.0 - prune_window → n ≡ least_height skipped
   unfolding least_height
   least_some n e q = q ∙ sym (ap least_height e)
 
   module _ (k : Board) (r : Pending) where
-    pub lasts_none : skipped ≡ Nothing → true ≡ lasts_through k skipped r
+    pub lasts_none : skipped ≡ None → true ≡ lasts_through k skipped r
     unfolding lasts_through
     lasts_none e = sym (rw e)
 
     -- t is the record's resolved-through, and o what it has outwaited
-    module _ {h : Height} (t o : ℕ) (e : skipped ≡ At h) (et : t ≡ r.through) (eo : o ≡ outwaited k h.0 r) where
+    module _ {h : Height} (t o : ℕ) (e : skipped ≡ Some h) (et : t ≡ r.through) (eo : o ≡ outwaited k h.0 r) where
       pub resolved_all : columns ≤ t → false ≡ lasts_through k skipped r
       unfolding lasts_through
       resolved_all l =
@@ -82,7 +82,7 @@ module _ (last : Last) (B : ℕ) where
   unfolding stays last_skipped least_height
   stays_is = fun_ext (λ c. go c (skips last B))
     where
-      go : (c : Confirmed) (t : Bool) → (not t || leb (B - 1 - c.height) prune_window) ≡ leb (least_height (cond t (At (record { 0 = B - 1 })) Nothing)) c.height
+      go : (c : Confirmed) (t : Bool) → (not t || leb (B - 1 - c.height) prune_window) ≡ leb (least_height (cond t (Some (record { 0 = B - 1 })) None)) c.height
       go c true = young (B - 1) c.height
       go c false = sym (le-leb 0 c.height (omega arith))
 
@@ -90,7 +90,7 @@ module _ (last : Last) (B : ℕ) where
   unfolding lasts last_skipped lasts_through
   lasts_is k = fun_ext (λ r. go r (skips last B))
     where
-      go : (r : Pending) (t : Bool) → (not t || ltb (max r.through (outwaited k (B - 1) r)) columns) ≡ lasts_through k (cond t (At (record { 0 = B - 1 })) Nothing) r
+      go : (r : Pending) (t : Bool) → (not t || ltb (max r.through (outwaited k (B - 1) r)) columns) ≡ lasts_through k (cond t (Some (record { 0 = B - 1 })) None) r
       go r true = refl
       go r false = refl
 

@@ -1,7 +1,6 @@
 -- What the code asks of a record: all by the last skipped height, and of pending records by the mark beside them. Assumes nothing.
-use Rattle.std.specs.Prelude.{ℕ, ◌+◌, ◌-◌, max, Bool, true, not, ◌&&◌, cond, List, [], ◌∷◌, leb, ltb, eqb}
-use Rattle.kinds.specs.declared.Last.{Last}
-use Rattle.kinds.specs.declared.Last.TheVariants.{Nothing, At}
+use Rattle.std.specs.Prelude.{ℕ, ◌+◌, ◌-◌, max, Bool, true, not, ◌&&◌, cond, List, [], ◌∷◌, leb, ltb, eqb, None, Some}
+use Rattle.kinds.specs.Last.{Last}
 use Rattle.rules.specs.Lists.{bit, any}
 use Rattle.rules.specs.Ids.{Id, same}
 use Rattle.rules.specs.Counts.{columns}
@@ -11,17 +10,17 @@ use Rattle.batch.specs.Needed.{skips}
 
 -- the last of the heights that a block at B skips, if it skips any
 unfoldable pub last_skipped : Last → ℕ → Last
-last_skipped last B = cond (skips last B) (At (record { 0 = B - 1 })) Nothing
+last_skipped last B = cond (skips last B) (Some (record { 0 = B - 1 })) None
 
 -- the least height of a confirmed record that stays through the skipped heights, by the last of them
 unfoldable pub least_height : Last → ℕ
-least_height Nothing = 0
-least_height (At h) = h.0 - prune_window
+least_height None = 0
+least_height (Some h) = h.0 - prune_window
 
 -- a pending record lasts through them
 unfoldable pub lasts_through : Board → Last → Pending → Bool
-lasts_through k Nothing r = true
-lasts_through k (At h) r = ltb (max r.through (outwaited k h.0 r)) columns
+lasts_through k None r = true
+lasts_through k (Some h) r = ltb (max r.through (outwaited k h.0 r)) columns
 
 -- the confirmed record of i, if there is one, has at least the height
 unfoldable pub held_above : ℕ → List Confirmed → Id → Bool

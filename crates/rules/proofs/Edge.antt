@@ -6,7 +6,7 @@ use lib.Dec.{eqb}
 use lib.ListN.{take, drop, replicate}
 use lib.Ieee.{Float, nan, inf, fin, binary64, to_bits}
 use Rattle.kinds.specs.declared.State.{State}
-use Rattle.kinds.specs.declared.Last.TheVariants.{Nothing}
+use Rattle.std.specs.Prelude.{None}
 use Rattle.kinds.specs.Answers.{Answer}
 use Rattle.rules.specs.Ids.{Id, same}
 use Rattle.rules.specs.Counts.{Counts, nought, places_of_counts}
@@ -58,7 +58,7 @@ answer_of k (enters s xs i) = (enter_call k s xs i (record { 0 = 5000 }) (record
 answer_of k (enters_at rate s xs i) = (enter_call k s xs i (record { 0 = rate }) (record { 0 = 100 })).answer
 answer_of k (leaves s xs i) = (leave_call k s xs i).answer
 answer_of k (connects s l ids B) = (block_call k s l ids (record { 0 = B })).answer
-answer_of k (estimates c r target) = estimate_call k (record { last = Nothing; pending = 0; recent = 0 }) c r (record { 0 = target })
+answer_of k (estimates c r target) = estimate_call k (record { last = None; pending = 0; recent = 0 }) c r (record { 0 = target })
 
 -- what an edge says
 pub data Edge : Type 0 where

@@ -5,8 +5,8 @@ use mathlib.Core.List.{List, [], ◌∷◌, ◌++◌}
 use lib.ListN.{replicate}
 use lib.Ieee.{Float, binary64, mul}
 use Rattle.kinds.specs.declared.State.{State}
-use Rattle.kinds.specs.declared.Last.{Last}
-use Rattle.kinds.specs.declared.Last.TheVariants.{Nothing, At}
+use Rattle.kinds.specs.Last.{Last}
+use Rattle.std.specs.Prelude.{None, Some}
 use Rattle.rules.specs.Counts.{Counts, columns, places_of_counts, decimal, nought, one, no_counts}
 use Rattle.rules.specs.Board.{Board, base}
 use Rattle.rules.specs.Memory.{Lent, lent}
@@ -36,7 +36,7 @@ abbrev pub state : Last → ℕ → ℕ → State
 state last p r = record { last = last; pending = p; recent = r }
 
 abbrev pub at : ℕ → Last
-at h = At (record { 0 = h })
+at h = Some (record { 0 = h })
 
 -- the counts all +0.0 but the first, or one of the 3,550 missing
 abbrev pub first_count : Float → Counts
@@ -67,36 +67,36 @@ edges =
     ∷ starts (lent one_missing no_counts [] []) 1
     ∷ starts (lent no_counts one_missing [] []) 1
     -- 1: ids not strictly rising (a second record all zero; an id twice), an unused place not zero, a used number above the capacity, bucket 142, resolved-through 26
-    ∷ says (leaves (state Nothing 2 0) (pending 1 33 0 ++ zeros 44) (id 1)) 1 []
-    ∷ says (leaves (state Nothing 2 0) (pending 1 33 0 ++ pending 1 33 0) (id 1)) 1 []
-    ∷ says (leaves (state Nothing 2 0) (pending 1 33 0 ++ pending 2 33 0) (id 1)) 0 []
-    ∷ says (leaves (state Nothing 0 0) (pending 1 33 0) (id 1)) 1 []
-    ∷ says (leaves (state Nothing 2 0) (pending 1 33 0) (id 1)) 1 []
-    ∷ says (leaves (state Nothing 1 0) (pending 1 141 25) (id 1)) 0 []
-    ∷ says (leaves (state Nothing 1 0) (pending 1 142 25) (id 1)) 1 []
-    ∷ says (leaves (state Nothing 1 0) (pending 1 141 26) (id 1)) 1 []
+    ∷ says (leaves (state None 2 0) (pending 1 33 0 ++ zeros 44) (id 1)) 1 []
+    ∷ says (leaves (state None 2 0) (pending 1 33 0 ++ pending 1 33 0) (id 1)) 1 []
+    ∷ says (leaves (state None 2 0) (pending 1 33 0 ++ pending 2 33 0) (id 1)) 0 []
+    ∷ says (leaves (state None 0 0) (pending 1 33 0) (id 1)) 1 []
+    ∷ says (leaves (state None 2 0) (pending 1 33 0) (id 1)) 1 []
+    ∷ says (leaves (state None 1 0) (pending 1 141 25) (id 1)) 0 []
+    ∷ says (leaves (state None 1 0) (pending 1 142 25) (id 1)) 1 []
+    ∷ says (leaves (state None 1 0) (pending 1 141 26) (id 1)) 1 []
     -- enter and leave judge only the pending table: a used number of confirmed records is not theirs
-    ∷ says (enters (state Nothing 1 77) (pending 1 33 0 ++ zeros 44) (id 2)) 0 []
+    ∷ says (enters (state None 1 77) (pending 1 33 0 ++ zeros 44) (id 2)) 0 []
     -- 1 before 2; 2 before 3; 3 where used = capacity, at no capacity too
-    ∷ says (enters (state Nothing 1 0) (pending 1 142 0) (id 1)) 1 []
-    ∷ says (enters (state Nothing 1 0) (pending 1 33 0 ++ (5 ∷ [])) (id 1)) 2 []
-    ∷ says (enters (state Nothing 1 0) (pending 1 33 0 ++ (5 ∷ [])) (id 2)) 3 []
-    ∷ says (enters (state Nothing 0 0) [] (id 1)) 3 []
+    ∷ says (enters (state None 1 0) (pending 1 142 0) (id 1)) 1 []
+    ∷ says (enters (state None 1 0) (pending 1 33 0 ++ (5 ∷ [])) (id 1)) 2 []
+    ∷ says (enters (state None 1 0) (pending 1 33 0 ++ (5 ∷ [])) (id 2)) 3 []
+    ∷ says (enters (state None 0 0) [] (id 1)) 3 []
     -- 16 after 1 and before 2 and 3: 999 is below the floor, 1,000 is not
-    ∷ says (enters_at 999 (state Nothing 1 0) (pending 1 142 0) (id 1)) 1 []
-    ∷ says (enters_at 999 (state Nothing 1 0) (pending 1 33 0 ++ (5 ∷ [])) (id 1)) 16 []
-    ∷ says (enters_at 0 (state Nothing 0 0) [] (id 1)) 16 []
-    ∷ says (enters_at 1000 (state Nothing 1 0) (pending 1 33 0 ++ (5 ∷ [])) (id 1)) 2 []
-    ∷ says (enters_at 1000 (state Nothing 0 0) (zeros 44) (id 1)) 0 []
+    ∷ says (enters_at 999 (state None 1 0) (pending 1 142 0) (id 1)) 1 []
+    ∷ says (enters_at 999 (state None 1 0) (pending 1 33 0 ++ (5 ∷ [])) (id 1)) 16 []
+    ∷ says (enters_at 0 (state None 0 0) [] (id 1)) 16 []
+    ∷ says (enters_at 1000 (state None 1 0) (pending 1 33 0 ++ (5 ∷ [])) (id 1)) 2 []
+    ∷ says (enters_at 1000 (state None 0 0) (zeros 44) (id 1)) 0 []
     -- 4
-    ∷ says (leaves (state Nothing 1 0) (pending 1 33 0 ++ (5 ∷ [])) (id 2)) 4 []
+    ∷ says (leaves (state None 1 0) (pending 1 33 0 ++ (5 ∷ [])) (id 2)) 4 []
     -- an id listed three times counts once, beside another too; one that is not pending needs no room
-    ∷ says (connects (state Nothing 1 0) (memory (pending 1 33 0) (zeros 36)) (id 1 ++ id 1 ++ id 1) 101) 0 []
-    ∷ says (connects (state Nothing 1 0) (memory (pending 1 33 0) []) (id 1 ++ id 1 ++ id 1) 101) 7 []
-    ∷ says (connects (state Nothing 2 0) (memory (pending 1 33 0 ++ pending 2 33 0) (zeros 72)) (id 1 ++ id 2 ++ id 1) 101) 0 []
-    ∷ says (connects (state Nothing 2 0) (memory (pending 1 33 0 ++ pending 2 33 0) (zeros 36)) (id 1 ++ id 2 ++ id 1) 101) 7 []
-    ∷ says (connects (state Nothing 1 1) (memory (pending 1 33 0) (confirmed 2 100)) (id 3 ++ id 2) 101) 0 []
-    ∷ says (connects (state Nothing 1 1) (memory (pending 1 33 0) (confirmed 2 100)) (id 3 ++ id 1) 101) 7 []
+    ∷ says (connects (state None 1 0) (memory (pending 1 33 0) (zeros 36)) (id 1 ++ id 1 ++ id 1) 101) 0 []
+    ∷ says (connects (state None 1 0) (memory (pending 1 33 0) []) (id 1 ++ id 1 ++ id 1) 101) 7 []
+    ∷ says (connects (state None 2 0) (memory (pending 1 33 0 ++ pending 2 33 0) (zeros 72)) (id 1 ++ id 2 ++ id 1) 101) 0 []
+    ∷ says (connects (state None 2 0) (memory (pending 1 33 0 ++ pending 2 33 0) (zeros 36)) (id 1 ++ id 2 ++ id 1) 101) 7 []
+    ∷ says (connects (state None 1 1) (memory (pending 1 33 0) (confirmed 2 100)) (id 3 ++ id 2) 101) 0 []
+    ∷ says (connects (state None 1 1) (memory (pending 1 33 0) (confirmed 2 100)) (id 3 ++ id 1) 101) 7 []
     -- the skipped heights make room: a record of height 100 stays at 125 and goes at 126; the block's own height makes none
     ∷ says (connects (state (at 101) 1 1) (memory (late 1 0) (confirmed 2 100)) (id 1) 127) 0 []
     ∷ says (connects (state (at 101) 1 1) (memory (late 1 0) (confirmed 2 100)) (id 1) 126) 7 []
@@ -105,7 +105,7 @@ edges =
     -- gap 4,096 runs; 4,097 is refused; no last height is no gap
     ∷ says (connects (state (at 100) 1 0) one_pending [] 4196) 0 []
     ∷ says (connects (state (at 100) 1 0) one_pending [] 4197) 6 []
-    ∷ says (connects (state Nothing 1 0) one_pending [] 4197) 0 []
+    ∷ says (connects (state None 1 0) one_pending [] 4197) 0 []
     -- a confirmed record of height 101 stays at 126 and goes at 127; one above the height stays
     ∷ leaves_tables (state (at 125) 0 1) (memory (zeros 88) (confirmed 1 101 ++ zeros 36)) [] 126 (zeros 88 ++ (7 ∷ 7 ∷ 7 ∷ [])) (confirmed 1 101 ++ zeros 36 ++ (9 ∷ [])) 0 1
     ∷ leaves_tables (state (at 126) 0 1) (memory (zeros 88) (confirmed 1 101 ++ zeros 36)) [] 127 (zeros 88 ++ (7 ∷ 7 ∷ 7 ∷ [])) (zeros 72 ++ (9 ∷ [])) 0 0

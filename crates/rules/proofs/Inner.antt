@@ -3,7 +3,7 @@
 use mathlib.Core.Path.{◌≡◌, refl, sym, ap, ap₂, ◌∙◌}
 use mathlib.Core.Bool.{Bool, true, false, ◌&&◌, cond}
 use mathlib.Core.List.{List, ◌∷◌, ◌++◌, map, append-nil}
-use mathlib.Core.Option.{none}
+use Rattle.std.specs.Prelude.{None}
 use Prim.Native.Nat.{ℕ, zero, suc, ◌+◌, ◌-◌, ◌*◌, ◌/◌, min, ◌≤◌, ◌<◌}
 use native.Mathlib.Nat.{suc-mul, le_refl, le_trans, min-le_left, min-le_right, min-eq_left, mul-div_cancel, div-zero, zero-lt-suc, mul-le-mul_right, div-lt_iff_lt-mul}
 use native.Mathlib.Omega.{arith}
@@ -138,7 +138,7 @@ unfolding estimate rate_in_column
 same_estimate k target xs ys h g =
     let c = column_of k target in
     let w = column_within k target in
-    ap₂ (λ (cs rs : List Float). cond (eqb target 0) none (sums_down_to 0 cs rs).rate) (column_inner buckets c places_of_counts xs w (omega arith) h) (column_inner buckets c places_of_counts ys w (omega arith) g)
+    ap₂ (λ (cs rs : List Float). cond (eqb target 0) None (sums_down_to 0 cs rs).rate) (column_inner buckets c places_of_counts xs w (omega arith) h) (column_inner buckets c places_of_counts ys w (omega arith) g)
 
 -- ---- the pending table, and the confirmed table
 

@@ -3,13 +3,12 @@
 use mathlib.Core.Path.{◌≡◌, refl, ◌∙◌}
 use mathlib.Core.Bool.{Bool, true, false, not, cond}
 use mathlib.Core.List.{List, [], ◌∷◌, map}
-use mathlib.Core.Option.{Option, none, some}
+use Rattle.std.specs.Prelude.{Option, None, Some}
 use Prim.Native.Nat.{ℕ, zero, suc, ◌+◌, ◌-◌, ◌*◌, ◌≤◌, zero-le}
 use native.Mathlib.Omega.{arith}
 use lib.Dec.{ltb}
 use lib.ListN.{length}
-use Rattle.kinds.specs.declared.Last.{Last}
-use Rattle.kinds.specs.declared.Last.TheVariants.{Nothing, At}
+use Rattle.kinds.specs.Last.{Last}
 use Rattle.rules.specs.Lists.{keep, insert}
 use Rattle.rules.specs.Ids.{Id, same, dropped}
 use Rattle.rules.specs.Counts.{columns}
@@ -55,7 +54,7 @@ found i [] = zero-le
 found i (r ∷ rs) = go (same r.id i) (found i rs) (left_keep (λ r. not (same r.id i)) rs)
   where
     go : (b : Bool) → adds_found (find i rs) + left (without i rs) ≤ left rs → left (without i rs) ≤ left rs
-        → adds_found (cond b (some r) (find i rs)) + left (cond (not b) (r ∷ without i rs) (without i rs)) ≤ gained (unresolved r) + left rs
+        → adds_found (cond b (Some r) (find i rs)) + left (cond (not b) (r ∷ without i rs) (without i rs)) ≤ gained (unresolved r) + left rs
     go true h l = omega arith
     go false h l = omega arith
 
@@ -65,8 +64,8 @@ module _ (k : Board) where
   confirmed B i s = go (holds i B s.recent)
     where
       look : (o : Option Pending) → adds_found o + left (without i s.pending) ≤ left s.pending → adds_found o + left (record_confirmation k B i o s).pending ≤ left s.pending
-      look none h = omega arith
-      look (some r) h = h
+      look None h = omega arith
+      look (Some r) h = h
 
       go : (b : Bool) → cond b 0 (adds_found (find i s.pending)) + left (cond b (tx_left i s) (record_confirmation k B i (find i s.pending) s)).pending ≤ left s.pending
       go true = omega (arith, left_keep (λ r. not (same r.id i)) s.pending)
@@ -99,8 +98,8 @@ module _ (k : Board) where
 
   pub paid_skip : (p : Last) (B : ℕ) (s : Estimator) → adds_skip k p B s + left (skip_heights k p B s).pending ≤ left s.pending
   unfolding adds_skip skip_heights
-  paid_skip Nothing B s = omega arith
-  paid_skip (At L) B s = paid_heights L.0 (B - suc L.0) s
+  paid_skip None B s = omega arith
+  paid_skip (Some L) B s = paid_heights L.0 (B - suc L.0) s
 
   pub paid_finish : (b : Bool) (B : ℕ) (s : Estimator) → adds_finish k b B s + left (finish_block k b B s).pending ≤ left s.pending
   unfolding adds_finish finish_block

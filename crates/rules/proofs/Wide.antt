@@ -2,11 +2,10 @@
 -- pruned after 25 blocks as on the base board. Computed. Assumes nothing.
 use mathlib.Core.Path.{◌≡◌, refl}
 use mathlib.Core.List.{[], ◌∷◌, map}
-use mathlib.Core.Option.{some}
+use Rattle.std.specs.Prelude.{Some, None}
 use Prim.Native.Nat.{ℕ}
 use lib.ListN.{length}
 use lib.Ieee.{binary64, to_bits, round}
-use Rattle.kinds.specs.declared.Last.TheVariants.{Nothing}
 use Rattle.rules.specs.Board.{Pending, wide}
 use Rattle.rules.specs.Counts.{nought, one}
 use Rattle.rules.specs.Estimator.{Estimator, outwaited, record_confirmation, advance_height}
@@ -19,7 +18,7 @@ admitted = record { id = []; bucket = 0; entry = 100; through = 0 }
 
 -- three columns of bucket 0, and a confirmed record of height 100
 abbrev small : Estimator
-small = record { last = Nothing; pending = admitted ∷ []; recent = record { id = []; height = 100 } ∷ []; confirmed = nought ∷ nought ∷ nought ∷ []; resolved = [] }
+small = record { last = None; pending = admitted ∷ []; recent = record { id = []; height = 100 } ∷ []; confirmed = nought ∷ nought ∷ nought ∷ []; resolved = [] }
 
 -- targets: 6 is the last of column 1, 150 the last of column 25, and above means 25
 pub wide_columns : map (column_of wide) (1 ∷ 6 ∷ 7 ∷ 144 ∷ 145 ∷ 149 ∷ 150 ∷ 151 ∷ []) ≡ 1 ∷ 1 ∷ 2 ∷ 24 ∷ 25 ∷ 25 ∷ 25 ∷ 25 ∷ []
@@ -31,7 +30,7 @@ pub wide_waits : map (λ (h : ℕ). outwaited wide h admitted) (105 ∷ 106 ∷ 
 wide_waits = refl
 
 -- a wait of 6 blocks fits column 1, one of 7 and of 12 column 2, one of 13 column 3
-pub wide_confirms : map (λ (h : ℕ). (record_confirmation wide h [] (some admitted) small).confirmed) (106 ∷ 107 ∷ 112 ∷ 113 ∷ [])
+pub wide_confirms : map (λ (h : ℕ). (record_confirmation wide h [] (Some admitted) small).confirmed) (106 ∷ 107 ∷ 112 ∷ 113 ∷ [])
     ≡ (one ∷ one ∷ one ∷ []) ∷ (nought ∷ one ∷ one ∷ []) ∷ (nought ∷ one ∷ one ∷ []) ∷ (nought ∷ nought ∷ one ∷ []) ∷ []
 unfolding compute_steps
 wide_confirms = refl

@@ -1,9 +1,7 @@
 -- How many single additions to resolved counts a block makes (document 02, L11): the tallies of document 01's steps. Each definition stands beside the step of
 -- Estimator.antt that counts, and has that step's own test of the columns that gain. Assumes nothing.
-use Rattle.std.specs.Prelude.{◌≡◌, ℕ, zero, suc, ◌+◌, ◌-◌, ◌<◌, Bool, true, false, cond, List, [], ◌∷◌}
-use Rattle.std.proofs.Math.Option.{Option, none, some}
-use Rattle.kinds.specs.declared.Last.{Last}
-use Rattle.kinds.specs.declared.Last.TheVariants.{Nothing, At}
+use Rattle.std.specs.Prelude.{◌≡◌, ℕ, zero, suc, ◌+◌, ◌-◌, ◌<◌, Bool, true, false, cond, List, [], ◌∷◌, Option, None, Some}
+use Rattle.kinds.specs.Last.{Last}
 use Rattle.rules.specs.Lists.{bit}
 use Rattle.rules.specs.Ids.{Id}
 use Rattle.rules.specs.Ladder.{buckets}
@@ -35,8 +33,8 @@ additions gains (r ∷ rs) = gained (gains r) + additions gains rs
 
 -- a record that is confirmed, if there is one: each column above resolved-through
 unfoldable pub adds_found : Option Pending → ℕ
-adds_found none = 0
-adds_found (some r) = gained (unresolved r)
+adds_found None = 0
+adds_found (Some r) = gained (unresolved r)
 
 -- a listed id: none if its confirmed record holds exactly B
 unfoldable pub adds_confirm : ℕ → Id → Estimator → ℕ
@@ -58,8 +56,8 @@ adds_heights k L (suc n) s = adds_expire k (L + suc n) (advance_heights k L n s)
 
 -- the skipped heights
 unfoldable pub adds_skip : Board → Last → ℕ → Estimator → ℕ
-adds_skip k Nothing B s = 0
-adds_skip k (At L) B s = adds_heights k L.0 (B - suc L.0) s
+adds_skip k None B s = 0
+adds_skip k (Some L) B s = adds_heights k L.0 (B - suc L.0) s
 
 -- the block's own height, if it advances
 unfoldable pub adds_finish : Board → Bool → ℕ → Estimator → ℕ

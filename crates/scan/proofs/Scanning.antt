@@ -2,7 +2,7 @@
 use mathlib.Core.Path.{◌≡◌, refl, sym, ap, ◌∙◌}
 use mathlib.Core.Bool.{true, false}
 use mathlib.Core.List.{List}
-use mathlib.Core.Option.{none}
+use Rattle.std.specs.Prelude.{None, Some, option_map}
 use Prim.Native.Nat.{ℕ, zero, suc, ◌+◌, ◌-◌, ◌*◌, ◌≤◌, ◌<◌}
 use native.Mathlib.Nat.{zero-add, le_of_suc-le-suc, not-suc-le-zero}
 use native.Mathlib.Omega.{arith}
@@ -10,14 +10,13 @@ use lib.ListN.{length, drop, get_or, drop_of_length-le}
 use lib.Seq.{drop-cons, get_or-drop}
 use lib.Ieee.{Float, nan, binary64, of_bits, add}
 use borrow.Author.Tests.{lt-ltb, le-ltb}
-use Rattle.kinds.specs.declared.Estimated.TheVariants.{NoRate, Rate}
 use Rattle.rules.specs.Ladder.{ladder, buckets}
 use Rattle.rules.specs.Counts.{nought}
 use Rattle.rules.specs.Estimate.{Sums, passes, column, add_bucket, sums_down_to, rate_in_column}
 use Rattle.floats.proofs.Bits.{zero_is}
 use Rattle.lists.proofs.Lists.{get_or_within}
 use Rattle.scan.specs.declared.Scan.{Scan}
-use Rattle.scan.specs.Sums.{estimated, rate_of, shown}
+use Rattle.scan.specs.Sums.{shown}
 
 length_column : (n c : ℕ) (xs : List Float) → length (column n c xs) ≡ n
 unfolding column
@@ -36,7 +35,7 @@ get_or_column (suc n) c xs (suc k) h =
 abbrev pub sums_of : ℕ → List Float → List Float → ℕ → Sums
 sums_of c cs rs b = sums_down_to b (drop b (column buckets c cs)) (drop b (column buckets c rs))
 
-sums_none : (c : ℕ) (cs rs : List Float) → sums_of c cs rs 142 ≡ record { confirmed = nought; resolved = nought; rate = none }
+sums_none : (c : ℕ) (cs rs : List Float) → sums_of c cs rs 142 ≡ record { confirmed = nought; resolved = nought; rate = None }
 unfolding sums_down_to
 sums_none c cs rs = rw (drop_of_length-le (column 142 c cs) {i = 142} (omega (arith, length_column 142 c cs)))
 
@@ -49,16 +48,16 @@ sums_more c cs rs b h =
     rw (drop-cons (column 142 c cs) b nought (omega arith), drop-cons (column 142 c rs) b nought (omega arith), get_or_column 142 c cs b h, get_or_column 142 c rs b h)
 
 -- before the first bucket
-pub shown_none : (c : ℕ) (cs rs : List Float) → shown (record { confirmed = of_bits binary64 0; resolved = of_bits binary64 0; best = 142 }) ≡ sums_of c cs rs 142
-unfolding shown rate_of
+pub shown_none : (c : ℕ) (cs rs : List Float) → shown (record { confirmed = of_bits binary64 0; resolved = of_bits binary64 0; best = None }) ≡ sums_of c cs rs 142
+unfolding shown
 shown_none c cs rs = rw zero_is (sym (sums_none c cs rs))
 
 -- one bucket more, whose sums pass or do not
 module _ (b : ℕ) (x y : Float) (s : Scan) where
-  pub shown_passing : b < 142 → passes (add binary64 s.confirmed x) (add binary64 s.resolved y) ≡ true
-      → shown (record { confirmed = add binary64 s.confirmed x; resolved = add binary64 s.resolved y; best = b }) ≡ add_bucket b x y (shown s)
-  unfolding shown rate_of add_bucket
-  shown_passing h p = rw (lt-ltb b 142 h, p)
+  pub shown_passing : passes (add binary64 s.confirmed x) (add binary64 s.resolved y) ≡ true
+      → shown (record { confirmed = add binary64 s.confirmed x; resolved = add binary64 s.resolved y; best = Some b }) ≡ add_bucket b x y (shown s)
+  unfolding shown add_bucket
+  shown_passing p = rw p
 
   pub shown_failing : passes (add binary64 s.confirmed x) (add binary64 s.resolved y) ≡ false
       → shown (record { confirmed = add binary64 s.confirmed x; resolved = add binary64 s.resolved y; best = s.best }) ≡ add_bucket b x y (shown s)
@@ -78,16 +77,7 @@ shown_turn c cs rs n s t p h k q lc lr w e =
     ∙ ap (add_bucket b (get_or cs i nan) (get_or rs i nan)) (w ∙ ap (sums_of c cs rs) m)
     ∙ rw (get_or_within cs i nan nought (omega arith), get_or_within rs i nan nought (omega arith)) (sym (sums_more c cs rs b (omega arith)))
 
--- the answer of the last one, if it is a bucket
-module _ (c : ℕ) (cs rs : List Float) (n : ℕ) (z : n ≡ 0) (s : Scan) (e : shown s ≡ sums_of c cs rs n) where
-  rate_is : rate_of s.best ≡ rate_in_column c cs rs
-  unfolding shown rate_in_column
-  rate_is = ap (λ (t : Sums). t.rate) (e ∙ ap (sums_of c cs rs) z)
-
-  pub told : s.best < 142 → Rate (record { 0 = ladder s.best }) ≡ estimated (rate_in_column c cs rs)
-  unfolding rate_of estimated
-  told h = rw (← rate_is, lt-ltb s.best 142 h)
-
-  pub told_none : 142 ≤ s.best → NoRate ≡ estimated (rate_in_column c cs rs)
-  unfolding rate_of estimated
-  told_none h = rw (← rate_is, le-ltb s.best 142 h)
+-- the rate of the last bucket that passes, of all
+pub last_rate : (c : ℕ) (cs rs : List Float) (s : Scan) → shown s ≡ sums_of c cs rs 0 → option_map ladder s.best ≡ rate_in_column c cs rs
+unfolding shown rate_in_column
+last_rate c cs rs s e = ap (λ (t : Sums). t.rate) e

@@ -1,4 +1,5 @@
 -- The loop that puts each record of a file where its id stands: as every id stands there already, placing a record leaves the ids as they are. Assumes nothing.
+use Rattle.std.specs.Prelude.{Ok, Err}
 use mathlib.Core.Path.{◌≡◌, refl, sym, ap, ◌∙◌}
 use mathlib.Core.Bool.{Bool, true, ◌||◌, true≢false}
 use mathlib.Core.List.{List, [], ◌∷◌, map}
@@ -14,8 +15,7 @@ use Rattle.rules.specs.Records.{records, laid, id_of}
 use Rattle.rules.proofs.Records.{Sized, and_left, and_right, length_records, sized_records}
 use Rattle.format.specs.File.{settled}
 use Rattle.ids.specs.Search.{find_in}
-use Rattle.ids.specs.declared.Found.{Found}
-use Rattle.ids.specs.declared.Found.TheVariants.{At, Gap}
+use Rattle.ids.specs.Search.{Found}
 use Rattle.ids.proofs.Search.{at_told}
 use Rattle.table.proofs.View.{gap_any, at_set, map_set}
 use Rattle.ids.proofs.Records.{get_or_records}
@@ -25,12 +25,12 @@ use Rattle.table.proofs.Holding.{Holds, holds_own, holds_length, holds_records, 
 -- ---- a record whose id is there
 
 -- where it stands
-stands : (q : List ℕ) (rs : List (List ℕ)) → rising (map id_of rs) ≡ true → any (λ r. same (id_of r) (id_of q)) rs ≡ true → (k : ℕ) × (find_in (id_of q) (map id_of rs) ≡ At k)
+stands : (q : List ℕ) (rs : List (List ℕ)) → rising (map id_of rs) ≡ true → any (λ r. same (id_of r) (id_of q)) rs ≡ true → (k : ℕ) × (find_in (id_of q) (map id_of rs) ≡ Ok k)
 stands q rs up there = go (find_in (id_of q) (map id_of rs)) refl
   where
-    go : (o : Found) → find_in (id_of q) (map id_of rs) ≡ o → (k : ℕ) × (find_in (id_of q) (map id_of rs) ≡ At k)
-    go (At k) e = (k, e)
-    go (Gap n) e = absurd (true≢false (sym there ∙ gap_any id_of (id_of q) 0 n rs up e))
+    go : (o : Found) → find_in (id_of q) (map id_of rs) ≡ o → (k : ℕ) × (find_in (id_of q) (map id_of rs) ≡ Ok k)
+    go (Ok k) e = (k, e)
+    go (Err n) e = absurd (true≢false (sym there ∙ gap_any id_of (id_of q) 0 n rs up e))
 
 module _ (q : List ℕ) (rs : List (List ℕ)) (up : rising (map id_of rs) ≡ true) (there : any (λ r. same (id_of r) (id_of q)) rs ≡ true) where
   abbrev at : ℕ

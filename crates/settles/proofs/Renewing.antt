@@ -1,4 +1,5 @@
 -- One look at the confirmed table, and what it leaves there. Assumes nothing.
+use Rattle.std.specs.Prelude.{Ok, Err}
 use mathlib.Core.Path.{◌≡◌, sym, ap, ap₂, ◌∙◌}
 use mathlib.Core.Bool.{Bool, true, false, cond}
 use mathlib.Core.List.{List, [], map}
@@ -15,7 +16,6 @@ use Rattle.rules.specs.Memory.{confirmed_records, lay_confirmed}
 use Rattle.rules.proofs.Ids.{Up, up_of}
 use Rattle.rules.proofs.Memory.{confirmed_kept, own}
 use Rattle.ids.specs.Search.{find_in}
-use Rattle.ids.specs.declared.Found.TheVariants.{At, Gap}
 use Rattle.table.specs.Fields.{with_field}
 use Rattle.table.proofs.Sound.{sound_told}
 use Rattle.table.proofs.Steps.{confirmed_ids}
@@ -43,11 +43,11 @@ module _ (i : Id) (used n : ℕ) (xs : List ℕ) (s : sound_table confirmed_size
   abbrev some_of : Pending
   some_of = record { id = i; bucket = 0; entry = 0; through = 0 }
 
-  there : find_in i (map id_of bs) ≡ At n → is_confirmed i cs ≡ true
+  there : find_in i (map id_of bs) ≡ Ok n → is_confirmed i cs ≡ true
   unfolding is_confirmed confirmed_records
   there f = at_any (λ c. c.id) i 0 n (map confirmed_of bs) (rw confirmed_ids f)
 
-  missing : find_in i (map id_of bs) ≡ Gap n → is_confirmed i cs ≡ false
+  missing : find_in i (map id_of bs) ≡ Err n → is_confirmed i cs ≡ false
   unfolding is_confirmed confirmed_records
   missing f = gap_any (λ c. c.id) i 0 n (map confirmed_of bs) rises (rw confirmed_ids f)
 
@@ -56,14 +56,14 @@ module _ (i : Id) (used n : ℕ) (xs : List ℕ) (s : sound_table confirmed_size
   unchanged b e = sym (ap (λ (l : List Confirmed). lay_confirmed l xs) e ∙ own confirmed_kept confirmed_most used xs s b)
 
   -- it holds exactly B
-  pub looked_same : T (are_bytes xs) → find_in i (map id_of bs) ≡ At n → (old : ℕ) → old ≡ (confirmed_of (get_or bs n [])).height → old ≡ B
+  pub looked_same : T (are_bytes xs) → find_in i (map id_of bs) ≡ Ok n → (old : ℕ) → old ≡ (confirmed_of (get_or bs n [])).height → old ≡ B
       → (0 ≡ looked B i cs) × (xs ≡ lay_confirmed (renewed B i cs) xs)
   looked_same b f old e q =
       let h : holds i B cs ≡ true = sym (held i used n xs s B f old e) ∙ eq-eqb old B q in
       (sym (ap (λ (t : Bool). cond t 0 (cond (is_confirmed i cs) 2 1)) h), unchanged b (renewed_is B some_of cs ∙ raised_held B some_of up h))
 
   -- it gets B
-  pub looked_older : (ys : List ℕ) → T (are_bytes ys) → B < 256 ^ 4 → find_in i (map id_of bs) ≡ At n → (old : ℕ) → old ≡ (confirmed_of (get_or bs n [])).height → (old ≡ B → ⊥)
+  pub looked_older : (ys : List ℕ) → T (are_bytes ys) → B < 256 ^ 4 → find_in i (map id_of bs) ≡ Ok n → (old : ℕ) → old ≡ (confirmed_of (get_or bs n [])).height → (old ≡ B → ⊥)
       → ys ≡ laid confirmed_size used (set bs n (with_field 32 B (get_or bs n []))) xs
       → (2 ≡ looked B i cs) × (ys ≡ lay_confirmed (renewed B i cs) xs)
   looked_older ys b small f old e q w =
@@ -72,6 +72,6 @@ module _ (i : Id) (used n : ℕ) (xs : List ℕ) (s : sound_table confirmed_size
       (sym (ap₂ (λ (t u : Bool). cond t 0 (cond u 2 1)) h (there f)), noted_again i used n xs s B ys b small f w ∙ ap (λ (l : List Confirmed). lay_confirmed l xs) (sym k))
 
   -- there is none
-  pub looked_none : T (are_bytes xs) → find_in i (map id_of bs) ≡ Gap n → (1 ≡ looked B i cs) × (xs ≡ lay_confirmed (renewed B i cs) xs)
+  pub looked_none : T (are_bytes xs) → find_in i (map id_of bs) ≡ Err n → (1 ≡ looked B i cs) × (xs ≡ lay_confirmed (renewed B i cs) xs)
   looked_none b f =
       (sym (ap₂ (λ (t u : Bool). cond t 0 (cond u 2 1)) (sym (not_held i used n xs s B f)) (missing f)), unchanged b (renewed_is B some_of cs ∙ raised_absent B some_of up (missing f)))

@@ -5,7 +5,7 @@ use Prim.Native.Nat.{ℕ, ◌≤◌, ◌<◌}
 use lib.ListN.{length, drop}
 use borrow.Author.Tests.{le-leb, lt-leb}
 use Rattle.kinds.specs.declared.State.{State}
-use Rattle.kinds.specs.declared.Last.TheVariants.{Nothing}
+use Rattle.std.specs.Prelude.{None}
 use Rattle.kinds.specs.Answers.{done, damaged}
 use Rattle.rules.specs.Counts.{Counts, places_of_counts, no_counts}
 use Rattle.rules.specs.Board.{Board, pending_most, confirmed_size}
@@ -16,7 +16,7 @@ use Rattle.rules.specs.Calls.{outcome, start_call}
 
 -- the state after a fresh start, refused or not
 abbrev empty : State
-empty = record { last = Nothing; pending = 0; recent = 0 }
+empty = record { last = None; pending = 0; recent = 0 }
 
 module _ (k : Board) (l : Lent) (s : State) (e : s ≡ empty) where
   pub start_few : (length l.confirmed < places_of_counts) → outcome damaged s l ≡ start_call k l

@@ -1,4 +1,5 @@
 -- A record stored over the one that has its id already. Assumes nothing.
+use Rattle.std.specs.Prelude.{Ok}
 use mathlib.Core.Path.{◌≡◌, ◌∙◌}
 use mathlib.Core.Bool.{true}
 use mathlib.Core.List.{List, map}
@@ -10,12 +11,11 @@ use Rattle.rules.specs.Ids.{rising, placed, dropped}
 use Rattle.rules.specs.Records.{records, id_of, laid}
 use Rattle.rules.proofs.Records.{length_records}
 use Rattle.ids.specs.Search.{find_in}
-use Rattle.ids.specs.declared.Found.TheVariants.{At}
 use Rattle.table.proofs.Laid.{record_bytes}
 use Rattle.ids.proofs.Search.{at_told}
 use Rattle.table.proofs.View.{at_set}
 
-module _ (size used at : ℕ) (rec xs : List ℕ) (up : rising (map id_of (records size used xs)) ≡ true) (f : find_in (id_of rec) (map id_of (records size used xs)) ≡ At at) where
+module _ (size used at : ℕ) (rec xs : List ℕ) (up : rising (map id_of (records size used xs)) ≡ true) (f : find_in (id_of rec) (map id_of (records size used xs)) ≡ Ok at) where
   pub at_within : at < used
   at_within = rw (length-map, length_records) at (at_told (id_of rec) (map id_of (records size used xs)) at f).within
 

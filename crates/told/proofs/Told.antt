@@ -1,14 +1,15 @@
 -- What a caller learns of each compiled public call is what a step of `Ran` asks for, so that demand 3 holds of the compiled calls of both boards. If a contract in crate
--- `estimator` or `horizon` says less, this file is refused. Assumes nothing.
+-- `estimator` says less, this file is refused. Assumes nothing.
 use mathlib.Core.Path.{◌≡◌, ap, ap₂, ◌∙◌}
 use mathlib.Core.List.{List}
 use Prim.Native.Nat.{ℕ}
 use contract.Lifetimes.{Lfts}
 use lib.Ieee.{Float}
 use Rattle.kinds.specs.declared.Horizon.{Horizon}
-use Rattle.kinds.specs.Answers.{start_answer, enter_answer, leave_answer, block_answer, estimate_answer, write_answer, read_answer}
+use Rattle.kinds.specs.Answers.{start_answer, enter_answer, leave_answer, block_answer, estimate_answer, write_answer, read_answer, state_or, length_of}
 use Rattle.rules.specs.Board.{board_of}
-use Rattle.rules.specs.Memory.{Lent, lent}
+use Rattle.rules.specs.Estimator.{fresh}
+use Rattle.rules.specs.Memory.{Lent, lent, state_of}
 use Rattle.rules.specs.Slices.{given}
 use Rattle.rules.specs.Calls.{outcome, start_call, enter_call, leave_call, block_call, estimate_call}
 use Rattle.format.specs.File.{version_of}
@@ -17,59 +18,45 @@ use Rattle.lives.specs.Lives.{Ask, Life}
 use Rattle.lives.specs.Promises as contracts
 use Rattle.lives.specs.Promises.{Ran, CodePromise}
 use Rattle.lives.proofs.Boards.{code}
-use Rattle.estimator.proofs.new.Reads as base_new
-use Rattle.estimator.proofs.tx_entered.Reads as base_entered
-use Rattle.estimator.proofs.tx_left.Reads as base_left
-use Rattle.estimator.proofs.block_connected.Reads as base_connected
-use Rattle.estimator.proofs.estimate.Reads as base_estimate
-use Rattle.estimator.proofs.to_history_bytes.Reads as base_write
-use Rattle.estimator.proofs.from_history_bytes.Reads as base_read
-use Rattle.horizon.proofs.new.Reads as wide_new
-use Rattle.horizon.proofs.tx_entered.Reads as wide_entered
-use Rattle.horizon.proofs.tx_left.Reads as wide_left
-use Rattle.horizon.proofs.block_connected.Reads as wide_connected
-use Rattle.horizon.proofs.estimate.Reads as wide_estimate
-use Rattle.horizon.proofs.to_history_bytes.Reads as wide_write
-use Rattle.horizon.proofs.from_history_bytes.Reads as wide_read
-use Rattle.told.specs.Called.{page_of, Called, nothing, started, entered, left, connected, estimated, wrote, was_read, lent_anew, CalledPromise}
+use Rattle.estimator.proofs.new.Reads as page_new
+use Rattle.estimator.proofs.tx_entered.Reads as page_entered
+use Rattle.estimator.proofs.tx_left.Reads as page_left
+use Rattle.estimator.proofs.block_connected.Reads as page_connected
+use Rattle.estimator.proofs.estimate.Reads as page_estimate
+use Rattle.estimator.proofs.to_history_bytes.Reads as page_write
+use Rattle.estimator.proofs.from_history_bytes.Reads as page_read
+use Rattle.told.specs.Called.{Called, nothing, started, entered, left, connected, estimated, wrote, was_read, lent_anew, CalledPromise}
 
--- ---- each call's contract is the board's equation, whichever board it is
+-- ---- each call's contract is the board's equation
 
-start_said : (on : Horizon) (κs : Lfts 4) (c d x t : _) (r : _) (e : _) → page_of on base_new.Learnt wide_new.Learnt κs (c, (d, (x, (t, tt)))) r e
-    → outcome (start_answer r.answer) r.state (given e.0 e.1.0 e.1.1.0 e.1.1.1.0) ≡ start_call (board_of on) (given c d x t)
-start_said Horizon.Base κs c d x t r e l = l
-start_said Horizon.Wide κs c d x t r e l = l
+start_said : (on : Horizon) (κs : Lfts 4) (c d x t : _) (r : _) (e : _) → page_new.Learnt κs (c, (d, (x, (t, (on, tt))))) r e
+    → outcome (start_answer r) (state_or (state_of fresh) r) (given e.0 e.1.0 e.1.1.0 e.1.1.1.0) ≡ start_call (board_of on) (given c d x t)
+start_said on κs c d x t r e l = l
 
-enter_said : (on : Horizon) (κs : Lfts 2) (s x i q h : _) (r : _) (e : _) → page_of on base_entered.Learnt wide_entered.Learnt κs (s, (x, (i, (q, (h, tt))))) r e
-    → outcome (enter_answer r.answer) r.state e.1.0.now ≡ enter_call (board_of on) s x.now i.now q h
-enter_said Horizon.Base κs s x i q h r e l = l
-enter_said Horizon.Wide κs s x i q h r e l = l
+enter_said : (on : Horizon) (κs : Lfts 2) (s x i q h : _) (r : _) (e : _) → page_entered.Learnt κs (s, (x, (i, (q, (h, (on, tt)))))) r e
+    → outcome (enter_answer r) (state_or s r) e.1.0.now ≡ enter_call (board_of on) s x.now i.now q h
+enter_said on κs s x i q h r e l = l
 
-leave_said : (on : Horizon) (κs : Lfts 2) (s x i : _) (r : _) (e : _) → page_of on base_left.Learnt wide_left.Learnt κs (s, (x, (i, tt))) r e
-    → outcome (leave_answer r.answer) r.state e.1.0.now ≡ leave_call (board_of on) s x.now i.now
-leave_said Horizon.Base κs s x i r e l = l
-leave_said Horizon.Wide κs s x i r e l = l
+leave_said : (on : Horizon) (κs : Lfts 2) (s x i : _) (r : _) (e : _) → page_left.Learnt κs (s, (x, (i, (on, tt)))) r e
+    → outcome (leave_answer r) (state_or s r) e.1.0.now ≡ leave_call (board_of on) s x.now i.now
+leave_said on κs s x i r e l = l
 
 block_said : (on : Horizon) (κs : Lfts 5) (s c d x t ids h : _) (r : _) (e : _)
-    → page_of on base_connected.Learnt wide_connected.Learnt κs (s, (c, (d, (x, (t, (ids, (h, tt))))))) r e
-    → outcome (block_answer r.answer) r.state (given e.1.0 e.1.1.0 e.1.1.1.0 e.1.1.1.1.0) ≡ block_call (board_of on) s (given c d x t) ids.now h
-block_said Horizon.Base κs s c d x t ids h r e l = l
-block_said Horizon.Wide κs s c d x t ids h r e l = l
+    → page_connected.Learnt κs (s, (c, (d, (x, (t, (ids, (h, (on, tt)))))))) r e
+    → outcome (block_answer r) (state_or s r) (given e.1.0 e.1.1.0 e.1.1.1.0 e.1.1.1.1.0) ≡ block_call (board_of on) s (given c d x t) ids.now h
+block_said on κs s c d x t ids h r e l = l
 
-estimate_said : (on : Horizon) (κs : Lfts 2) (s c d g : _) (r : _) (e : _) → page_of on base_estimate.Learnt wide_estimate.Learnt κs (s, (c, (d, (g, tt)))) r e
+estimate_said : (on : Horizon) (κs : Lfts 2) (s c d g : _) (r : _) (e : _) → page_estimate.Learnt κs (s, (c, (d, (g, (on, tt))))) r e
     → estimate_answer r ≡ estimate_call (board_of on) s c.now d.now g
-estimate_said Horizon.Base κs s c d g r e l = l
-estimate_said Horizon.Wide κs s c d g r e l = l
+estimate_said on κs s c d g r e l = l
 
-write_said : (on : Horizon) (κs : Lfts 5) (s c d x t out : _) (r : _) (e : _) → page_of on base_write.Learnt wide_write.Learnt κs (s, (c, (d, (x, (t, (out, tt)))))) r e
-    → outcome (write_answer r.answer) r.state (output r.len e.1.1.1.1.1.0.now) ≡ write_call (version_of on) (board_of on) s (lent c.now d.now x.now t.now) out.now
-write_said Horizon.Base κs s c d x t out r e l = l
-write_said Horizon.Wide κs s c d x t out r e l = l
+write_said : (on : Horizon) (κs : Lfts 5) (s c d x t out : _) (r : _) (e : _) → page_write.Learnt κs (s, (c, (d, (x, (t, (out, (on, tt))))))) r e
+    → outcome (write_answer r) s (output (length_of r) e.1.1.1.1.1.0.now) ≡ write_call (version_of on) (board_of on) s (lent c.now d.now x.now t.now) out.now
+write_said on κs s c d x t out r e l = l
 
-read_said : (on : Horizon) (κs : Lfts 5) (file c d x t : _) (r : _) (e : _) → page_of on base_read.Learnt wide_read.Learnt κs (file, (c, (d, (x, (t, tt))))) r e
-    → outcome (read_answer r.answer) r.state (given e.1.0 e.1.1.0 e.1.1.1.0 e.1.1.1.1.0) ≡ read_call (version_of on) (board_of on) (given c d x t) file.now
-read_said Horizon.Base κs file c d x t r e l = l
-read_said Horizon.Wide κs file c d x t r e l = l
+read_said : (on : Horizon) (κs : Lfts 5) (file c d x t : _) (r : _) (e : _) → page_read.Learnt κs (file, (c, (d, (x, (t, (on, tt)))))) r e
+    → outcome (read_answer r) (state_or (state_of fresh) r) (given e.1.0 e.1.1.0 e.1.1.1.0 e.1.1.1.1.0) ≡ read_call (version_of on) (board_of on) (given c d x t) file.now
+read_said on κs file c d x t r e l = l
 
 -- ---- the calls in turn
 

@@ -7,7 +7,7 @@ use mathlib.Core.List.{List, [], ◌∷◌, ◌++◌}
 use lib.Dec.{T}
 use lib.ListN.{replicate}
 use lib.Ieee.{Float, nan, binary64, mul}
-use Rattle.kinds.specs.declared.Last.TheVariants.{At}
+use Rattle.std.specs.Prelude.{Some}
 use Rattle.rules.specs.Ids.{same}
 use Rattle.rules.specs.Counts.{decimal}
 use Rattle.rules.specs.Bytes.{bytes}
@@ -82,7 +82,7 @@ left_so m =
 
 pub record Ran (x : Held) : Type 0 where
   pub log_is : x.log ≡ taken
-  pub state_is : x.state ≡ record { last = At (record { 0 = 102 }); pending = 1; recent = 2 }
+  pub state_is : x.state ≡ record { last = Some (record { 0 = 102 }); pending = 1; recent = 2 }
   pub memory_is : T (left_so x.memory)
 
 -- BelowFloor (of a pending id, and on a full table), AlreadyPending, PendingFull, Absent, BadList, GapTooWide, ConfirmedFull, each refused where it must be
@@ -100,7 +100,7 @@ unfolding compute_runs left_so
 ran = record { log_is = refl; state_is = refl; memory_is = tt }
 
 -- The last call was refused, since both places are taken by records of height 101. They go at 127, so a block at 128 finds room; id 5, entered at 103, would go at 128.
-pub unstuck : (after base (connects (id 5) 128) (calls base dirty asked)).state ≡ record { last = At (record { 0 = 128 }); pending = 0; recent = 1 }
+pub unstuck : (after base (connects (id 5) 128) (calls base dirty asked)).state ≡ record { last = Some (record { 0 = 128 }); pending = 0; recent = 1 }
 unfolding compute_runs
 unstuck = refl
 

@@ -9,7 +9,7 @@ use lib.Dec.{T, lit<}
 use lib.ListN.{replicate}
 use lib.Ieee.{Float, nan, binary64, add}
 use Rattle.kinds.specs.declared.Horizon.{Horizon}
-use Rattle.kinds.specs.declared.Last.TheVariants.{At}
+use Rattle.std.specs.Prelude.{Some}
 use Rattle.rules.specs.Ids.{same}
 use Rattle.rules.specs.Ladder.{buckets}
 use Rattle.rules.specs.Counts.{Counts, columns, nought, one, cell}
@@ -136,7 +136,7 @@ left_so m =
 pub record Led (y : Life) : Type 0 where
   pub fresh_is : y.is_fresh ≡ true
   pub log_is : y.held.log ≡ taken
-  pub state_is : y.held.state ≡ record { last = At (record { 0 = 105 }); pending = 0; recent = 2 }
+  pub state_is : y.held.state ≡ record { last = Some (record { 0 = 105 }); pending = 0; recent = 2 }
   pub memory_is : T (left_so y.held.memory)
 
 pub led : Led there

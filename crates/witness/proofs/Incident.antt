@@ -5,7 +5,7 @@ use mathlib.Core.Bool.{false}
 use mathlib.Core.List.{List, [], ◌∷◌, map}
 use lib.Dec.{lit<, lit≤}
 use lib.ListN.{length-replicate}
-use Rattle.kinds.specs.declared.Last.TheVariants.{At}
+use Rattle.std.specs.Prelude.{Some}
 use Rattle.rules.specs.Board.{base}
 use Rattle.rules.specs.Counts.{nought, places_of_counts, no_counts}
 use Rattle.rules.specs.Estimator.{Estimator, fresh}
@@ -24,7 +24,7 @@ use Rattle.lives.specs.Lives.{Ask, change, read, Life, begun, next, lives}
 
 -- an estimator that is empty but for its last height
 abbrev old : Estimator
-old = record { last = At (record { 0 = 1000000 }); pending = []; recent = []; confirmed = no_counts; resolved = no_counts }
+old = record { last = Some (record { 0 = 1000000 }); pending = []; recent = []; confirmed = no_counts; resolved = no_counts }
 
 writable : Writable old
 writable =

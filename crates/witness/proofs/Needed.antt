@@ -9,7 +9,7 @@ use borrow.Author.Tests.{le-ltb}
 use lib.Dec.{T, eqb, eqb_refl, eqb→eq, T_not, lit<, lit≤}
 use lib.Ieee.{Float, binary64, add, mul, div, le, to_bits}
 use Rattle.kinds.specs.declared.Height.{Height}
-use Rattle.kinds.specs.declared.Last.TheVariants.{At}
+use Rattle.std.specs.Prelude.{Some}
 use Rattle.rules.specs.Ids.{Id}
 use Rattle.rules.specs.Counts.{columns, decimal, nought, one, cell}
 use Rattle.rules.specs.Board.{Board, base}
@@ -127,7 +127,7 @@ again_reports = refl
 -- ---- no fresh start: the incident
 
 -- A block that is not above the last height lists ids, and that is all: no height is advanced, so nothing expires, decays or is pruned.
-pub stands_still : (k : Board) (ids : List Id) (B : ℕ) (s : Estimator) (L : Height) → s.last ≡ At L → B ≤ L.0 → block_connected k ids B s ≡ confirm_all k B ids s
+pub stands_still : (k : Board) (ids : List Id) (B : ℕ) (s : Estimator) (L : Height) → s.last ≡ Some L → B ≤ L.0 → block_connected k ids B s ≡ confirm_all k B ids s
 unfolding block_connected finish_block advances skip_heights advance_heights
 stands_still k ids B s L e h =
     let none : B - suc L.0 ≡ 0 = omega arith in
@@ -135,7 +135,7 @@ stands_still k ids B s L e h =
 
 -- what a caller has after a restored history that is empty but for its last height
 abbrev pub restored : ℕ → Held
-restored h = let x = started base dirty in record { state = record { last = At (record { 0 = h }); pending = 0; recent = 0 }; memory = x.memory; log = begin }
+restored h = let x = started base dirty in record { state = record { last = Some (record { 0 = h }); pending = 0; recent = 0 }; memory = x.memory; log = begin }
 
 -- Of two ids of one rate the next block confirms one.
 abbrev pub next_block : List Call

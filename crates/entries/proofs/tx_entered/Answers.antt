@@ -1,4 +1,5 @@
 -- `entries::tx_entered` meets its contract: each of its answers is the definition's, by the laws of `Answered`. Assumes nothing.
+use Rattle.std.specs.Prelude.{Err}
 use mathlib.Core.Path.{◌≡◌, sym, ap, ◌∙◌}
 use mathlib.Core.Bool.{true, false}
 use Prim.Native.Nat.{ℕ, ◌+◌, ◌*◌, ◌<◌, ◌≤◌}
@@ -14,7 +15,6 @@ use Rattle.rules.specs.Records.{capacity}
 use Rattle.rules.specs.Memory.{pending_capacity, sound_pending}
 use Rattle.rules.proofs.Rates.{bucket_lt, low_of, high_of}
 use Rattle.rules.proofs.Memory.{pending_table, pending_within}
-use Rattle.ids.specs.declared.Found.TheVariants.{Gap}
 use Rattle.rules.proofs.Bytes.{are_bytes_lem}
 use Rattle.by_id.proofs.ById.{searchable, told, gap_used}
 use Rattle.entries.proofs.Answered.{Given, Ends, one_more, enter_damaged, enter_low, enter_there, enter_full, enter_done}
@@ -37,8 +37,8 @@ found : (c : In-Bucket) → (ltb c.args.rate.0 floor ≡ false) × (c.in-Bucket.
 found c = high_of _ _ (sym (ap bucket_answer c.in-Bucket.is) ∙ c.bucket_index_for_rate.ensures)
 
 -- where the search ends in a gap
-gap : (c : In-Gap) → Ends (board_of c.args.on) (board_lawful c.args.on) (record { state = c.args.state; table = c.args.pending.now; id = c.args.id.now }) (Gap c.in-Gap.at)
-gap c = told _ _ _ _ _ c.record_size-size.ensures.value c.find.ensures c.in-Gap.is
+gap : (c : In-Gap) → Ends (board_of c.args.on) (board_lawful c.args.on) (record { state = c.args.state; table = c.args.pending.now; id = c.args.id.now }) (Err c.in-Err.at)
+gap c = told _ _ _ _ _ c.record_size-size.ensures.value c.find.ensures c.in-Err.is
 
 -- and the table is not full
 full_at : (c : After-capacity) → c.capacity.result ≡ pending_capacity (board_of c.args.on) c.args.pending.now
@@ -64,7 +64,7 @@ returns-in_default c =
 
 pub returns-then-used-capacity : goal.returns-then-used-capacity
 returns-then-used-capacity c =
-    enter_full (board_of c.args.on) (board_lawful c.args.on) (given (goal.at.returns-then-used-capacity c).Start) (sound (goal.at.returns-then-used-capacity c).Else-not-judge_pending) c.args.rate c.args.height (found (goal.at.returns-then-used-capacity c).In-Bucket).0 c.in-Gap.at (gap (goal.at.returns-then-used-capacity c).In-Gap) (c.if-used-capacity.true ∙ full_at (goal.at.returns-then-used-capacity c).After-capacity)
+    enter_full (board_of c.args.on) (board_lawful c.args.on) (given (goal.at.returns-then-used-capacity c).Start) (sound (goal.at.returns-then-used-capacity c).Else-not-judge_pending) c.args.rate c.args.height (found (goal.at.returns-then-used-capacity c).In-Bucket).0 c.in-Err.at (gap (goal.at.returns-then-used-capacity c).In-Gap) (c.if-used-capacity.true ∙ full_at (goal.at.returns-then-used-capacity c).After-capacity)
 
 pub overflow_cast-bucket : goal.overflow_cast-bucket
 overflow_cast-bucket c = omega (arith, (found (goal.at.overflow_cast-bucket c).In-Bucket).1, bucket_lt c.args.rate.0)
@@ -72,19 +72,19 @@ overflow_cast-bucket c = omega (arith, (found (goal.at.overflow_cast-bucket c).I
 pub insert_pending-requires : goal.insert_pending-requires
 insert_pending-requires c = record {
   at_le_used = (
-    gap_used (board_of c.args.on).table.size c.args.state.pending c.in-Gap.at c.args.pending.now c.args.id.now (gap (goal.at.insert_pending-requires c).In-Gap),
+    gap_used (board_of c.args.on).table.size c.args.state.pending c.in-Err.at c.args.pending.now c.args.id.now (gap (goal.at.insert_pending-requires c).In-Gap),
     (room _ _ _ (sound (goal.at.insert_pending-requires c).Else-not-judge_pending) (full_at (goal.at.insert_pending-requires c).After-capacity) c.if-used-capacity.false).1,
   );
   id_len = search rules;
 }
 
-pub returns-in-At : goal.returns-in-At
-returns-in-At c =
-    enter_there (board (goal.at.returns-in-At c).Start) (board_lawful c.args.on) (given (goal.at.returns-in-At c).Start) (sound (goal.at.returns-in-At c).Else-not-judge_pending) c.args.rate c.args.height (found (goal.at.returns-in-At c).In-Bucket).0 c.in-At.field-0 (told _ _ _ _ _ c.record_size-size.ensures.value c.find.ensures c.in-At.is)
+pub returns-in-Ok : goal.returns-in-Ok
+returns-in-Ok c =
+    enter_there (board (goal.at.returns-in-Ok c).Start) (board_lawful c.args.on) (given (goal.at.returns-in-Ok c).Start) (sound (goal.at.returns-in-Ok c).Else-not-judge_pending) c.args.rate c.args.height (found (goal.at.returns-in-Ok c).In-Bucket).0 c.in-Ok.field-0 (told _ _ _ _ _ c.record_size-size.ensures.value c.find.ensures c.in-Ok.is)
 
 pub returns-else-used-capacity : goal.returns-else-used-capacity
 returns-else-used-capacity c =
-    enter_done (board (goal.at.returns-else-used-capacity c).Start) (board_lawful c.args.on) (given (goal.at.returns-else-used-capacity c).Start) (sound (goal.at.returns-else-used-capacity c).Else-not-judge_pending) c.args.rate c.args.height (found (goal.at.returns-else-used-capacity c).In-Bucket).0 c.in-Gap.at (gap (goal.at.returns-else-used-capacity c).In-Gap) (room _ _ _ (sound (goal.at.returns-else-used-capacity c).Else-not-judge_pending) (full_at (goal.at.returns-else-used-capacity c).After-capacity) c.if-used-capacity.false).0
+    enter_done (board (goal.at.returns-else-used-capacity c).Start) (board_lawful c.args.on) (given (goal.at.returns-else-used-capacity c).Start) (sound (goal.at.returns-else-used-capacity c).Else-not-judge_pending) c.args.rate c.args.height (found (goal.at.returns-else-used-capacity c).In-Bucket).0 c.in-Err.at (gap (goal.at.returns-else-used-capacity c).In-Gap) (room _ _ _ (sound (goal.at.returns-else-used-capacity c).Else-not-judge_pending) (full_at (goal.at.returns-else-used-capacity c).After-capacity) c.if-used-capacity.false).0
     c.insert_pending.new.table (are_bytes_lem c.insert_pending.new.table (λ i. omega (arith, c.type_inv.pending i))) (search rules) (search rules)
     c.in-Bucket.bucket (found (goal.at.returns-else-used-capacity c).In-Bucket).1 c.insert_pending.ensures c.with_pending.result c.with_pending.ensures
 

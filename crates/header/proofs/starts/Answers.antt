@@ -3,7 +3,7 @@ use mathlib.Core.Path.{◌≡◌, sym, ap, ◌∙◌}
 use Prim.Native.Nat.{ℕ, ◌+◌}
 use native.Mathlib.Omega.{arith}
 use lib.ListN.{drop, get_or}
-use Rattle.kinds.specs.declared.Last.TheVariants.{At}
+use Rattle.std.specs.Prelude.{Some}
 use Rattle.format.specs.Parts.{begun}
 use Rattle.format.specs.File.{with_bucket_count}
 use Rattle.header.specs.Says.{header_says}
@@ -40,5 +40,5 @@ returns-then-s-at-lt5 c = sym (ap begun (flag_short c.args.s.now c.args.at (omeg
 pub returns : goal.returns
 returns c =
     c.ends-2.ensures
-    ∙ ap (λ (n : ℕ). begun (with_bucket_count (At (record { 0 = n })) (drop (c.args.at + 5) c.args.s.now))) c.number-h.ensures
+    ∙ ap (λ (n : ℕ). begun (with_bucket_count (Some (record { 0 = n })) (drop (c.args.at + 5) c.args.s.now))) c.number-h.ensures
     ∙ ap begun (sym (flag_at c.args.s.now c.args.at (omega arith) (omega (arith, flag (goal.at.returns c).After-part, c.if-flag-ne1.false))))

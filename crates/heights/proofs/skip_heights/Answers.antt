@@ -17,8 +17,8 @@ returns-in_default c =
 
 pub returns-then-to-from : goal.returns-then-to-from
 returns-then-to-from c =
-    none_between (board_of c.args.on) (board_lawful c.args.on) c.args.state (given (goal.at.returns-then-to-from c).Start) c.args.h.0 c.requires c.in-At.is c.if-to-from.true
+    none_between (board_of c.args.on) (board_lawful c.args.on) c.args.state (given (goal.at.returns-then-to-from c).Start) c.args.h.0 c.requires c.in-Some.is c.if-to-from.true
 
 pub returns : goal.returns
 returns c =
-    between (board_of c.args.on) (board_lawful c.args.on) c.args.state (given (goal.at.returns c).Start) c.args.h.0 _ c.in-At.is (omega arith) c.advance_heights.ensures
+    between (board_of c.args.on) (board_lawful c.args.on) c.args.state (given (goal.at.returns c).Start) c.args.h.0 _ c.in-Some.is (omega arith) c.advance_heights.ensures

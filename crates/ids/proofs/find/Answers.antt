@@ -8,7 +8,7 @@ use lib.Seq.{take_all}
 use Rattle.rules.specs.Ids.{Id, below}
 use Rattle.rules.specs.Records.{records, id_of}
 use Rattle.mem.specs.Be.{be_at}
-use Rattle.ids.specs.declared.Found.{Found}
+use Rattle.ids.specs.Search.{Found}
 use Rattle.ids.proofs.Ids.{Below, id32, cmp_below, cmp_equal, cmp_above}
 use Rattle.ids.proofs.First.{words_below}
 use Rattle.ids.proofs.Records.{length_ids, get_or_ids, record_end}
@@ -113,7 +113,7 @@ loop-lo-preserved-in-Less c = (lower (goal.at.loop-lo-preserved-in-Less c).In-lo
 pub returns-in-Equal : goal.returns-in-Equal
 returns-in-Equal c =
     let b : get_or (js (goal.at.returns-in-Equal c).In-loop-lo) (mid (goal.at.returns-in-Equal c).In-loop-lo) [] ≡ c.args.id.now = mid_id (goal.at.returns-in-Equal c).In-loop-lo ∙ cmp_equal _ _ (sym c.compare_id.ensures ∙ c.in-Equal.is) in
-    sym (find_at c.args.id.now 0 (js (goal.at.returns-in-Equal c).In-loop-lo) (mid (goal.at.returns-in-Equal c).In-loop-lo) (mid_in (goal.at.returns-in-Equal c).In-loop-lo) (below_at (js (goal.at.returns-in-Equal c).In-loop-lo) c.args.id.now c.requires.table_value (mid (goal.at.returns-in-Equal c).In-loop-lo) (mid_in (goal.at.returns-in-Equal c).In-loop-lo) b) b ∙ ap Found.At (zero-add (mid (goal.at.returns-in-Equal c).In-loop-lo)))
+    sym (find_at c.args.id.now 0 (js (goal.at.returns-in-Equal c).In-loop-lo) (mid (goal.at.returns-in-Equal c).In-loop-lo) (mid_in (goal.at.returns-in-Equal c).In-loop-lo) (below_at (js (goal.at.returns-in-Equal c).In-loop-lo) c.args.id.now c.requires.table_value (mid (goal.at.returns-in-Equal c).In-loop-lo) (mid_in (goal.at.returns-in-Equal c).In-loop-lo) b) b ∙ ap Ok (zero-add (mid (goal.at.returns-in-Equal c).In-loop-lo)))
 
 pub loop-lo-preserved : goal.loop-lo-preserved
 loop-lo-preserved c = (upper (goal.at.loop-lo-preserved c).In-loop-lo (rw (mid_id (goal.at.loop-lo-preserved c).In-loop-lo) (cmp_above _ _ (sym c.compare_id.ensures ∙ c.in-Greater.is))))
@@ -121,4 +121,4 @@ loop-lo-preserved c = (upper (goal.at.loop-lo-preserved c).In-loop-lo (rw (mid_i
 pub returns : goal.returns
 returns c =
     let n = length_ids c.args.size c.args.used c.args.table.now in
-    sym (find_gap c.args.id.now 0 _ c.loop-lo.lo (omega arith) c.loop-lo.invariant.under (λ q. c.loop-lo.invariant.over c.loop-lo.lo (omega arith) (omega arith)) ∙ ap Found.Gap (zero-add c.loop-lo.lo))
+    sym (find_gap c.args.id.now 0 _ c.loop-lo.lo (omega arith) c.loop-lo.invariant.under (λ q. c.loop-lo.invariant.over c.loop-lo.lo (omega arith) (omega arith)) ∙ ap Err (zero-add c.loop-lo.lo))

@@ -9,13 +9,13 @@ use Rattle.marks.proofs.mark.Goals as goal
 -- a record that is found is a used one
 pub bounds-marks-i : goal.bounds-marks-i
 bounds-marks-i c =
-    let t = at_told _ _ _ (sym c.find.ensures ∙ c.in-At.is) in
+    let t = at_told _ _ _ (sym c.find.ensures ∙ c.in-Ok.is) in
     omega (arith, c.requires.used_in_bounds, t.within, length_ids c.args.size c.args.used c.args.table.now)
 
-pub returns-in-At : goal.returns-in-At
-returns-in-At c =
-    noted_as c.args.marks.now (sym c.find.ensures ∙ c.in-At.is)
+pub returns-in-Ok : goal.returns-in-Ok
+returns-in-Ok c =
+    noted_as c.args.marks.now (sym c.find.ensures ∙ c.in-Ok.is)
 
-pub returns-in-Gap : goal.returns-in-Gap
-returns-in-Gap c =
-    noted_as c.args.marks.now (sym c.find.ensures ∙ c.in-Gap.is)
+pub returns-in-Err : goal.returns-in-Err
+returns-in-Err c =
+    noted_as c.args.marks.now (sym c.find.ensures ∙ c.in-Err.is)

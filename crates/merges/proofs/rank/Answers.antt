@@ -10,11 +10,11 @@ use Rattle.merges.proofs.rank.Goals as goal
 -- a record that is found is one of the first n
 pub overflow_add-result : goal.overflow_add-result
 overflow_add-result c =
-    let t = at_told _ _ _ (sym c.find.ensures ∙ c.in-At.is) in
+    let t = at_told _ _ _ (sym c.find.ensures ∙ c.in-Ok.is) in
     omega (arith, c.requires.confirmed_size_in_bounds, t.within, length_ids confirmed_size c.args.n c.args.recent.now)
 
-pub returns-in-At : goal.returns-in-At
-returns-in-At c = sym (ap rank_of (sym c.find.ensures ∙ c.in-At.is))
+pub returns-in-Ok : goal.returns-in-Ok
+returns-in-Ok c = sym (ap rank_of (sym c.find.ensures ∙ c.in-Ok.is))
 
-pub returns-in-Gap : goal.returns-in-Gap
-returns-in-Gap c = sym (ap rank_of (sym c.find.ensures ∙ c.in-Gap.is))
+pub returns-in-Err : goal.returns-in-Err
+returns-in-Err c = sym (ap rank_of (sym c.find.ensures ∙ c.in-Err.is))

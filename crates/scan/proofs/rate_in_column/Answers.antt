@@ -1,21 +1,26 @@
-use native.Mathlib.Omega.{arith}
-use Rattle.scan.proofs.Scanning.{shown_none, shown_turn, told, told_none}
+use Rattle.std.proofs.Common.{rules, ◌≡◌, ◌≤◌, ◌<◌, length, option_map, IfSome, ℕ, ◌+◌, ◌-◌, ◌*◌, ◌/◌, ◌%◌, Bool, true, false, nat_eq, nat_lt, List, [], ◌∷◌, ◌++◌, slice_index_or, slice_set, bit_and, bit_or, Fits, w8, w32, w64, Bor, MutBor}
+use Rattle.rules.specs.Ladder.{buckets}
+use Rattle.rules.specs.Counts.{columns, places_of_counts}
+use Rattle.rules.specs.Estimate.{passes, add_bucket, rate_in_column}
+use Rattle.scan.specs.Sums.{shown}
 use Rattle.scan.proofs.rate_in_column.Goals as goal
 
+-- src/lib.rt:65:5
 pub loop-b-init : goal.loop-b-init
-loop-b-init c = ((omega arith, shown_none c.args.c c.args.confirmed.now c.args.resolved.now))
+loop-b-init c = ?
 
+-- src/lib.rt:67:9
+pub add_bucket-s-requires-clause-best : goal.add_bucket-s-requires-clause-best
+add_bucket-s-requires-clause-best c = ?
+
+-- src/lib.rt:65:5
 pub loop-b-preserved : goal.loop-b-preserved
-loop-b-preserved c = (
-  omega arith,
-  shown_turn c.args.c c.args.confirmed.now c.args.resolved.now c.loop-b.b c.loop-b.s _ (omega arith) (omega arith) (omega arith) (omega arith) (omega arith) (omega arith)
-      c.loop-b.invariant.1 c.add_bucket-s.ensures,
-)
+loop-b-preserved c = ?
 
-pub returns-then-best-lt-BUCKET_COUNT : goal.returns-then-best-lt-BUCKET_COUNT
-returns-then-best-lt-BUCKET_COUNT c =
-    rw c.rate_at.ensures (told c.args.c c.args.confirmed.now c.args.resolved.now c.loop-b.b (omega arith) c.loop-b.s c.loop-b.invariant.1 (omega arith))
+-- src/lib.rt:69:5
+pub map-requires : goal.map-requires
+map-requires c = ?
 
+-- src/lib.rt:55:1
 pub returns : goal.returns
-returns c =
-    told_none c.args.c c.args.confirmed.now c.args.resolved.now c.loop-b.b (omega arith) c.loop-b.s c.loop-b.invariant.1 (omega arith)
+returns c = ?

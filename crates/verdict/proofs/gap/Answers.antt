@@ -9,8 +9,8 @@ returns-in_default c = rw c.in_default.is
 
 pub returns-then-from-to : goal.returns-then-from-to
 unfolding gap
-returns-then-from-to c = rw c.in-At.is
+returns-then-from-to c = rw c.in-Some.is
 
 pub returns-else-from-to : goal.returns-else-from-to
 unfolding gap
-returns-else-from-to c = rw c.in-At.is (omega arith)
+returns-else-from-to c = rw c.in-Some.is (omega arith)

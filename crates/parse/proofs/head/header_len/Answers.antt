@@ -8,6 +8,6 @@ pub returns-in-Nothing : goal.returns-in-Nothing
 returns-in-Nothing c =
     let e : height_length c.args.last ≡ 0 = ap height_length c.in-Nothing.is in record { value = omega arith; upper_bound = omega arith }
 
-pub returns-in-At : goal.returns-in-At
-returns-in-At c =
-    let e : height_length c.args.last ≡ 4 = ap height_length c.in-At.is in record { value = omega arith; upper_bound = omega arith }
+pub returns-in-Some : goal.returns-in-Some
+returns-in-Some c =
+    let e : height_length c.args.last ≡ 4 = ap height_length c.in-Some.is in record { value = omega arith; upper_bound = omega arith }

@@ -4,15 +4,15 @@ use mathlib.Core.List.{List, ◌++◌}
 use Prim.Native.Nat.{ℕ, ◌+◌}
 use native.Mathlib.Omega.{arith}
 use lib.Seq.{sets}
-use Rattle.kinds.specs.declared.Last.{Last}
+use Rattle.kinds.specs.Last.{Last}
 use Rattle.rules.specs.Bytes.{bytes}
 use Rattle.format.specs.File.{height_length, last_bytes}
 use Rattle.parse.proofs.Putting.{put_none, put_at}
 use Rattle.parse.proofs.head.put_last.Goals as goal
 
-pub put_u32-requires-in-At-2 : goal.put_u32-requires-in-At-2
-put_u32-requires-in-At-2 c =
-    let e : height_length c.args.last ≡ 4 = ap height_length c.in-At.is in
+pub put_u32-requires-in-Some-2 : goal.put_u32-requires-in-Some-2
+put_u32-requires-in-Some-2 c =
+    let e : height_length c.args.last ≡ 4 = ap height_length c.in-Some.is in
     omega (arith, e)
 
 pub returns-in-Nothing : goal.returns-in-Nothing
@@ -22,9 +22,9 @@ returns-in-Nothing c =
     ∙ put_none c.args.out.now c.args.at
     ∙ ap (λ (l : Last). sets c.args.out.now c.args.at (last_bytes l ++ bytes 4 142)) (sym c.in-Nothing.is)
 
-pub returns-in-At : goal.returns-in-At
-returns-in-At c =
-    c.put_u32-in-At-2.ensures
-    ∙ ap (λ (o : List ℕ). sets o (c.args.at + 5) (bytes 4 142)) (c.put_u32-in-At.ensures ∙ ap (λ (o : List ℕ). sets o (c.args.at + 1) (bytes 4 c.in-At.h.0)) c.put_u8-in-At.ensures)
-    ∙ put_at c.args.out.now c.args.at c.in-At.h.0
-    ∙ ap (λ (x : Last). sets c.args.out.now c.args.at (last_bytes x ++ bytes 4 142)) (sym c.in-At.is)
+pub returns-in-Some : goal.returns-in-Some
+returns-in-Some c =
+    c.put_u32-in-Some-2.ensures
+    ∙ ap (λ (o : List ℕ). sets o (c.args.at + 5) (bytes 4 142)) (c.put_u32-in-Some.ensures ∙ ap (λ (o : List ℕ). sets o (c.args.at + 1) (bytes 4 c.in-Some.h.0)) c.put_u8-in-Some.ensures)
+    ∙ put_at c.args.out.now c.args.at c.in-Some.h.0
+    ∙ ap (λ (x : Last). sets c.args.out.now c.args.at (last_bytes x ++ bytes 4 142)) (sym c.in-Some.is)

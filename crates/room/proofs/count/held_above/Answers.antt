@@ -12,13 +12,13 @@ find-requires c = let both = searchable confirmed_size confirmed_size confirmed_
 
 pub height_at-h-requires : goal.height_at-h-requires
 height_at-h-requires c =
-    in_table confirmed_size confirmed_size confirmed_most _ _ _ _ refl c.requires.recent_value (sym c.find.ensures ∙ c.in-At.is)
+    in_table confirmed_size confirmed_size confirmed_most _ _ _ _ refl c.requires.recent_value (sym c.find.ensures ∙ c.in-Ok.is)
 
-pub returns-in-At : goal.returns-in-At
-returns-in-At c =
-    let f = sym c.find.ensures ∙ c.in-At.is in
+pub returns-in-Ok : goal.returns-in-Ok
+returns-in-Ok c =
+    let f = sym c.find.ensures ∙ c.in-Ok.is in
     held_there c.args.least.0 c.args.id.now c.args.kept _ c.args.recent.now (sound_told _ _ _ _ c.requires.recent_value).rise f _ c.height_at-h.ensures
 
-pub returns-in-Gap : goal.returns-in-Gap
-returns-in-Gap c =
-    held_nowhere c.args.least.0 c.args.id.now c.args.kept _ c.args.recent.now (sound_told _ _ _ _ c.requires.recent_value).rise (sym c.find.ensures ∙ c.in-Gap.is)
+pub returns-in-Err : goal.returns-in-Err
+returns-in-Err c =
+    held_nowhere c.args.least.0 c.args.id.now c.args.kept _ c.args.recent.now (sound_told _ _ _ _ c.requires.recent_value).rise (sym c.find.ensures ∙ c.in-Err.is)

@@ -7,10 +7,10 @@ pub returns-in_default : goal.returns-in_default
 returns-in_default c = no_last _ _ c.in_default.is
 
 pub returns-then-to-eq0 : goal.returns-then-to-eq0
-returns-then-to-eq0 c = none_skipped _ c.args.h.0 c.in-At.is (omega arith)
+returns-then-to-eq0 c = none_skipped _ c.args.h.0 c.in-Some.is (omega arith)
 
 pub returns-then-from-before : goal.returns-then-from-before
-returns-then-from-before c = some_skipped _ c.args.h.0 c.in-At.is (omega arith)
+returns-then-from-before c = some_skipped _ c.args.h.0 c.in-Some.is (omega arith)
 
 pub returns : goal.returns
-returns c = none_skipped _ c.args.h.0 c.in-At.is (omega arith)
+returns c = none_skipped _ c.args.h.0 c.in-Some.is (omega arith)

@@ -23,7 +23,7 @@ through_is n = n.pending_at-r.ensures.through_value ∙ ap (λ (p : Pending). p.
 
 -- the last skipped height
 abbrev height : After-outwaited-reach → ℕ
-height n = n.in-At.h.0
+height n = n.in-Some.h.0
 
 reach_is : (n : After-outwaited-reach) → n.outwaited-reach.result ≡ outwaited (board_of n.args.on) (height n) (rec n)
 reach_is n =
@@ -39,8 +39,8 @@ pending_at-r-requires c =
 
 pub returns-then-most-r : goal.returns-then-most-r
 returns-then-most-r c =
-    resolved_all _ (board_of c.args.on) (rec (goal.at.returns-then-most-r c).After-outwaited-reach) _ _ c.in-At.is (through_is (goal.at.returns-then-most-r c).After-outwaited-reach) (reach_is (goal.at.returns-then-most-r c).After-outwaited-reach) c.if-most-r.true
+    resolved_all _ (board_of c.args.on) (rec (goal.at.returns-then-most-r c).After-outwaited-reach) _ _ c.in-Some.is (through_is (goal.at.returns-then-most-r c).After-outwaited-reach) (reach_is (goal.at.returns-then-most-r c).After-outwaited-reach) c.if-most-r.true
 
 pub returns : goal.returns
 returns c =
-    some_left _ (board_of c.args.on) (rec (goal.at.returns c).After-outwaited-reach) _ _ c.in-At.is (through_is (goal.at.returns c).After-outwaited-reach) (reach_is (goal.at.returns c).After-outwaited-reach) c.if-most-r.false
+    some_left _ (board_of c.args.on) (rec (goal.at.returns c).After-outwaited-reach) _ _ c.in-Some.is (through_is (goal.at.returns c).After-outwaited-reach) (reach_is (goal.at.returns c).After-outwaited-reach) c.if-most-r.false

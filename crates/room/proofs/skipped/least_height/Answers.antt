@@ -7,7 +7,7 @@ pub returns-in_default : goal.returns-in_default
 returns-in_default c = least_none _ c.in_default.is
 
 pub returns-then-n-far : goal.returns-then-n-far
-returns-then-n-far c = least_some _ 0 c.in-At.is (omega arith)
+returns-then-n-far c = least_some _ 0 c.in-Some.is (omega arith)
 
 pub returns : goal.returns
-returns c = least_some _ _ c.in-At.is (omega arith)
+returns c = least_some _ _ c.in-Some.is (omega arith)
