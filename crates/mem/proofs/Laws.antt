@@ -1,11 +1,12 @@
 -- Laws of four bytes as a number. Assumes nothing.
 use mathlib.Core.Path.{◌≡◌, refl, sym, ap, ◌∙◌}
 use mathlib.Core.List.{List}
-use Prim.Native.Nat.{ℕ, suc, ◌+◌, ◌*◌, ◌/◌, ◌%◌, ◌≤◌, ◌<◌}
+use Prim.Native.Nat.{ℕ, suc, ◌+◌, ◌*◌, ◌/◌, ◌≤◌, ◌<◌}
 use native.Mathlib.Numerals.{add-one}
 use native.Mathlib.Omega.{arith}
-use lib.ListN.{length, take, drop, get_or, set}
-use lib.Seq.{drop-cons, sets}
+use lib.ListN.{length, take, drop, get_or}
+use lib.Seq.{drop-cons}
+use Rattle.std.specs.Int.{w32, to_le_bytes}
 use Rattle.rules.specs.Bytes.{le, bytes}
 use Rattle.mem.specs.Le.{le_at}
 use Rattle.mem.specs.Be.{be_at}
@@ -38,13 +39,10 @@ be_at_4 s at =
     let e : get_or s (at + 0) 0 ≡ get_or s at 0 = ap (λ (k : ℕ). get_or s k 0) z in
     omega arith
 
-pub put_4 : (s : List ℕ) (at v : ℕ)
-    → set (set (set (set s at (v % 256)) (at + 1) (v / 256 % 256)) (at + 2) (v / 65536 % 256)) (at + 3) (v / 16777216 % 256) ≡ sets s at (bytes 4 v)
+-- the library's bytes of a number of four bytes
+pub le_bytes_4 : (v : ℕ) → to_le_bytes w32 v ≡ bytes 4 v
 unfolding bytes
-put_4 s at v =
-    let a : at + 1 ≡ suc at = omega arith in
-    let b : at + 2 ≡ suc (suc at) = omega arith in
-    let c : at + 3 ≡ suc (suc (suc at)) = omega arith in
+le_bytes_4 v =
     let d : v / 65536 ≡ v / 256 / 256 = omega arith in
     let e : v / 16777216 ≡ v / 256 / 256 / 256 = omega arith in
     cc

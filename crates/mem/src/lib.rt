@@ -3,7 +3,7 @@
 
 mod moves;
 
-ghost use Rattle.std.specs.Prelude.{◌≡◌, ◌+◌, ◌≤◌, ◌<◌, length};
+ghost use Rattle.std.specs.Prelude.{◌≡◌, ◌+◌, ◌≤◌, length};
 ghost use Rattle.std.proofs.lemmas.List.Edits.{sets};
 ghost use Rattle.mem.specs.Be.{be_at};
 ghost use Rattle.mem.specs.Le.{le_at};
@@ -11,23 +11,12 @@ ghost use Rattle.rules.specs.Bytes.{bytes};
 
 pub use moves::{put_bytes, shift_down, shift_up, zero};
 
-// A byte as a number of four bytes.
-fn wide(x: u8) -> u32
-    ensures { (result ≡ x) × (result < 256) }
-{
-    x as u32
-}
-
 // The four bytes of s from `at` on, as a number.
 pub fn u32_le(s: &[u8], at: usize) -> u32
     requires { at + 4 ≤ length s.now }
     ensures { result ≡ le_at 4 s.now at }
 {
-    let a = wide(s[at]);
-    let b = wide(s[at + 1]);
-    let c = wide(s[at + 2]);
-    let d = wide(s[at + 3]);
-    a + 256 * (b + 256 * (c + 256 * d))
+    u32::from_le_bytes([s[at], s[at + 1], s[at + 2], s[at + 3]])
 }
 
 // The four bytes of s from `at` on, as a number with the first byte the highest: such numbers have the order of the bytes.
@@ -35,11 +24,7 @@ pub fn u32_be(s: &[u8], at: usize) -> u32
     requires { at + 4 ≤ length s.now }
     ensures { result ≡ be_at 4 s.now at }
 {
-    let a = wide(s[at]);
-    let b = wide(s[at + 1]);
-    let c = wide(s[at + 2]);
-    let d = wide(s[at + 3]);
-    d + 256 * (c + 256 * (b + 256 * a))
+    u32::from_be_bytes([s[at], s[at + 1], s[at + 2], s[at + 3]])
 }
 
 // The four bytes of v are put into s from `at` on.
@@ -47,8 +32,5 @@ pub fn put_u32(s: &mut [u8], at: usize, v: u32)
     requires { at + 4 ≤ length s.old }
     ensures { s.new ≡ sets s.old at (bytes 4 v) }
 {
-    s[at] = (v % 256) as u8;
-    s[at + 1] = (v / 256 % 256) as u8;
-    s[at + 2] = (v / 65536 % 256) as u8;
-    s[at + 3] = (v / 16777216 % 256) as u8;
+    s[at..at + 4].copy_from_slice(&v.to_le_bytes());
 }

@@ -8,11 +8,7 @@ pub fn shift_up(a: &mut [u8], from: usize, to: usize, by: usize)
     requires { (from ≤ to) × (to + by ≤ length a.old) }
     ensures { a.new ≡ shifted_up from to by a.old }
 {
-    let mut i = to;
-    while from < i {
-        i -= 1;
-        a[i + by] = a[i];
-    }
+    a.copy_within(from..to, from + by);
 }
 
 // Moves `n` bytes from `from + by` on down by `by`.
@@ -20,11 +16,8 @@ pub fn shift_down(a: &mut [u8], from: usize, by: usize, n: usize)
     requires { from + by + n ≤ length a.old }
     ensures { a.new ≡ shifted_down from by n a.old }
 {
-    let mut i = 0;
-    while i < n {
-        a[from + i] = a[from + by + i];
-        i += 1;
-    }
+    let start = from + by;
+    a.copy_within(start..start + n, from);
 }
 
 // Zeroes the bytes from `from` to `to`.
@@ -32,11 +25,7 @@ pub fn zero(a: &mut [u8], from: usize, to: usize)
     requires { (from ≤ to) × (to ≤ length a.old) }
     ensures { a.new ≡ zeroed from to a.old }
 {
-    let mut i = from;
-    while i < to {
-        a[i] = 0;
-        i += 1;
-    }
+    a[from..to].fill(0);
 }
 
 // Copies `src` into `a` from `at` on.
@@ -44,9 +33,5 @@ pub fn put_bytes(a: &mut [u8], at: usize, src: &[u8])
     requires { at + length src.now ≤ length a.old }
     ensures { a.new ≡ sets a.old at src.now }
 {
-    let mut i = 0;
-    while i < src.len() {
-        a[at + i] = src[i];
-        i += 1;
-    }
+    a[at..at + src.len()].copy_from_slice(src);
 }

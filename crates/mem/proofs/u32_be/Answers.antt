@@ -1,4 +1,3 @@
--- `mem::u32_be` meets its contract. Assumes nothing.
 use native.Mathlib.Omega.{arith}
 use Rattle.mem.proofs.Laws.{be_at_4}
 use Rattle.mem.proofs.u32_be.Goals as goal

@@ -1,5 +1,3 @@
--- `mem::u32_le` meets its contract.
--- Assumes nothing.
 use native.Mathlib.Omega.{arith}
 use Rattle.mem.proofs.Laws.{le_at_4}
 use Rattle.mem.proofs.u32_le.Goals as goal
