@@ -1,14 +1,15 @@
 -- A block by the answer that it gets: a refusal leaves all as it was, and a block that is not refused is sound and has room. Assumes nothing.
 use mathlib.Core.Path.{◌≡◌, refl, sym, ap, ◌∙◌}
 use mathlib.Core.Bool.{Bool, true, false, not, cond}
-use Prim.Native.Nat.{◌%◌, ◌≤◌}
+use Prim.Native.Nat.{◌%◌, ◌≤◌, ◌<◌}
 use native.Mathlib.Omega.{arith}
 use borrow.Author.Tests.{ltb-false, not-false}
 use lib.Dec.{ltb, eqb}
 use lib.ListN.{length}
 use Rattle.kinds.specs.declared.State.{State}
-use Rattle.kinds.specs.declared.BlockAnswer.{BlockAnswer}
-use Rattle.kinds.specs.Answers.{Answer, done, damaged, bad_list, gap_too_wide, confirmed_full, block_answer}
+use Rattle.kinds.specs.declared.refusals.BlockError.{BlockError}
+use Rattle.kinds.specs.Answers.{Answer, done, damaged, bad_list, gap_too_wide, confirmed_full, block_refusal}
+use Rattle.kinds.specs.Refusals.{block_refuses}
 use Rattle.rules.specs.Board.{Board}
 use Rattle.rules.specs.Estimator.{block_connected}
 use Rattle.rules.specs.Memory.{Lent, confirmed_capacity, sound, view}
@@ -26,14 +27,6 @@ as_refused : {L : Type 0} {s : State} {l : L} {o : Outcome L} → DoneOrAsGiven 
 as_refused (is_done e) a q n = absurd (n (ap (λ (b : Answer). b.number) q ∙ e))
 as_refused {s = s} {l = l} (as_given b) a q n = ap (λ (c : Answer). outcome c s l) q
 
--- each answer but Done has a number of its own
-not_done : (a : BlockAnswer) → (a ≡ BlockAnswer.Done → ⊥) → (block_answer a).number ≡ 0 → ⊥
-not_done BlockAnswer.Done h e = absurd (h refl)
-not_done BlockAnswer.Damaged h e = omega arith
-not_done BlockAnswer.BadList h e = omega arith
-not_done BlockAnswer.GapTooWide h e = omega arith
-not_done BlockAnswer.ConfirmedFull h e = omega arith
-
 module _ (k : Board) (a : Block) where
   abbrev s : State
   s = a.state
@@ -41,8 +34,8 @@ module _ (k : Board) (a : Block) where
   abbrev l : Lent
   l = a.lent
 
-  pub block_refusal : (b : BlockAnswer) → block_answer b ≡ (says k a).answer → (b ≡ BlockAnswer.Done → ⊥) → outcome (block_answer b) s l ≡ says k a
-  block_refusal b q h = as_refused (block_refused k s l a.ids a.height) (block_answer b) q (not_done b h)
+  pub block_as_given : (b : BlockError) → block_refusal b ≡ (says k a).answer → outcome (block_refusal b) s l ≡ says k a
+  block_as_given b q = as_refused (block_refused k s l a.ids a.height) (block_refusal b) q (λ z. let r : 0 < (block_refusal b).number = block_refuses b in omega arith)
 
   module _ (e : done ≡ (says k a).answer) where
     -- the four tests that it has passed

@@ -8,13 +8,13 @@ ghost use Rattle.rules.specs.Slices.{given, before, after};
 ghost use Rattle.rules.specs.Calls.{outcome, accepted, ids_of, held_once_listed};
 ghost use Rattle.ready.specs.Ready.{Ready};
 
-use kinds::{Height, Horizon, Last, State};
+use kinds::{Height, Horizon, State};
 
 // Whether a block advances: if there is no last height, or its height is above it.
-fn advances(last: Last, h: Height) -> bool
+fn advances(last: Option<Height>, h: Height) -> bool
     ensures { result ≡ advances last h.0 }
 {
-    let Last::At(low) = last else {
+    let Some(low) = last else {
         return true;
     };
     let from = low.0;

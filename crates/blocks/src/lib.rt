@@ -5,13 +5,13 @@
 mod accept;
 
 ghost use Rattle.std.specs.Prelude.{◌≡◌};
-ghost use Rattle.kinds.specs.Answers.{block_answer};
+ghost use Rattle.kinds.specs.Answers.{block_answer, state_or};
 ghost use Rattle.rules.specs.Board.{board_of};
 ghost use Rattle.rules.specs.Slices.{before, after};
 ghost use Rattle.rules.specs.Calls.{outcome, block_call};
 
 use accept::connect;
-use kinds::{BlockAnswer, Connected, Height, Horizon, State};
+use kinds::{BlockError, Height, Horizon, State};
 use verdict::judge_block;
 
 // Block (ids, height).
@@ -24,16 +24,12 @@ pub fn block_connected(
     ids: &[u8],
     height: Height,
     on: Horizon,
-) -> Connected
-    ensures { outcome (block_answer result.answer) result.state (after confirmed resolved pending recent)
+) -> Result<State, BlockError>
+    ensures { outcome (block_answer result) (state_or state result) (after confirmed resolved pending recent)
         ≡ block_call (board_of on) state (before confirmed resolved pending recent) ids.now height }
 {
-    let answer = judge_block(state, confirmed, resolved, pending, recent, ids, height, on);
-    let BlockAnswer::Done = answer else {
-        return Connected { answer, state };
-    };
-    Connected {
-        answer,
-        state: connect(state, confirmed, resolved, pending, recent, ids, height, on),
-    }
+    judge_block(state, confirmed, resolved, pending, recent, ids, height, on)?;
+    Ok(connect(
+        state, confirmed, resolved, pending, recent, ids, height, on,
+    ))
 }

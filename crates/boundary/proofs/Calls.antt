@@ -2,19 +2,17 @@
 -- Assumes nothing.
 use mathlib.Core.Path.{◌≡◌, refl, sym, ap, ap₂, ◌∙◌}
 use mathlib.Core.Bool.{Bool, true, false}
-use mathlib.Core.Logic.{⊎_elim}
 use mathlib.Core.List.{List, [], ◌∷◌}
-use Prim.Native.Nat.{ℕ}
+use Prim.Native.Nat.{ℕ, ◌<◌}
 use native.Mathlib.Omega.{arith}
-use types.Run.{OneOf}
-use denote.Enum.Declared.{tag_of}
+use borrow.Author.Tests.{ne_eqb}
+use Rattle.std.specs.Prelude.{Result, Ok, Err}
 use Rattle.kinds.specs.declared.State.{State}
-use Rattle.kinds.specs.declared.ReadAnswer.{ReadAnswer}
-use Rattle.kinds.specs.contracts.ReadAnswer.{the_type}
-use Rattle.kinds.specs.Answers.{Answer, read_answer}
+use Rattle.kinds.specs.Answers.{Answer, answer_of, state_or}
 use Rattle.rules.specs.Calls.{Outcome, outcome}
 use Rattle.format.specs.Calls.{Output, output}
-use Rattle.boundary.specs.Words.{put_state, put_if_done}
+use Rattle.boundary.specs.Words.{holds_state, state_in, put_state, put_if_done, put_ok}
+use Rattle.boundary.proofs.Words.{words}
 use Rattle.boundary.specs.Calls.{Seen, seen, if_fit, told, carry, begun, rate_carried, length_carried}
 
 -- ---- what fits
@@ -42,14 +40,17 @@ module _ {L : Type 0} (ws : List ℕ) (a : Answer) (s : State) (l : L) (o : Outc
   begins cs n vs ds p q r =
       ap₂ (λ (us bs : List ℕ). seen n us bs l) q r ∙ ap (λ (m : ℕ). seen m (put_if_done m s ws) (carry a.carries cs) l) p ∙ ap (begun ws cs) e
 
--- only an unknown version is carried by a reading
-pub no_version : (a : ReadAnswer) → OneOf (0 ∷ 1 ∷ 2 ∷ 4 ∷ 5 ∷ []) (tag_of the_type a) → (read_answer a).carries ≡ []
-no_version ReadAnswer.Done h = refl
-no_version ReadAnswer.Damaged h = refl
-no_version ReadAnswer.BadMagic h = refl
-no_version (ReadAnswer.UnknownVersion v) h = ⊎_elim (λ o. absurd (omega arith)) (⊎_elim (λ o. absurd (omega arith)) (⊎_elim (λ o. absurd (omega arith)) (⊎_elim (λ o. absurd (omega arith)) (λ o. absurd (omega arith))))) h
-no_version ReadAnswer.Corrupt h = refl
-no_version ReadAnswer.NoRoom h = refl
+-- what is put into the words of a call: refused, they are the words of the state that they hold
+pub put_told : {E : Type 0} (r : Result State E) (ws : List ℕ) → holds_state ws ≡ true → put_ok r ws ≡ put_state (state_or (state_in ws) r) ws
+put_told (Ok s) ws h = refl
+put_told (Err e) ws h = sym (words.own ws h)
+
+-- and into those of a call that begins a run
+pub put_begun : {E : Type 0} (refusal : E → Answer) → ((e : E) → 0 < (refusal e).number) → (s : State) (r : Result State E) (ws : List ℕ)
+    → put_ok r ws ≡ put_if_done (answer_of refusal r).number (state_or s r) ws
+unfolding put_if_done
+put_begun refusal refuses s (Ok t) ws = refl
+put_begun refusal refuses s (Err e) ws = let h : 0 < (refusal e).number = refuses e in sym (rw (ne_eqb (refusal e).number 0 (λ z. omega arith)))
 
 -- no word changes where there is none
 pub carry_none : (vs : List ℕ) → [] ≡ carry vs []

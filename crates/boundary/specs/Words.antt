@@ -1,6 +1,6 @@
 -- The state in four words: whether there is a last height (1 or 0), the height (0 where there is none), and how many pending and confirmed records are used.
 -- Assumes nothing.
-use Rattle.std.specs.Prelude.{◌≡◌, ℕ, ◌^◌, ◌<◌, Bool, true, ◌&&◌, cond, List, ◌∷◌, leb, ltb, eqb, length, get_or, drop, None, Some}
+use Rattle.std.specs.Prelude.{◌≡◌, ℕ, ◌^◌, ◌<◌, Bool, true, ◌&&◌, cond, List, ◌∷◌, leb, ltb, eqb, length, get_or, drop, None, Some, Result, Ok, Err}
 use Rattle.kinds.specs.Last.{Last}
 use Rattle.kinds.specs.declared.State.{State}
 
@@ -37,6 +37,11 @@ put_state s ws = flag_of s.last ∷ height_of s.last ∷ s.pending ∷ s.recent 
 -- the state of a fresh start or of a reading goes into the words where its number is that of Done; refused, there is none
 unfoldable pub put_if_done : ℕ → State → List ℕ → List ℕ
 put_if_done number s ws = cond (eqb number 0) (put_state s ws) ws
+
+-- the state of a call that is done goes into the words; refused, they stay
+abbrev pub put_ok : {E : Type 0} → Result State E → List ℕ → List ℕ
+put_ok (Ok s) ws = put_state s ws
+put_ok (Err e) ws = ws
 
 -- ---- what the words promise
 

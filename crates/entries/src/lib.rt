@@ -4,18 +4,15 @@
 #![tactic(auto)]
 
 ghost use Rattle.std.specs.Prelude.{◌≡◌};
-ghost use Rattle.kinds.specs.Answers.{enter_answer, leave_answer};
+ghost use Rattle.kinds.specs.Answers.{enter_answer, leave_answer, state_or};
 ghost use Rattle.rules.specs.Board.{board_of};
 ghost use Rattle.rules.specs.Calls.{outcome, enter_call, leave_call};
 
 use boards::record_size;
 use by_id::forget;
-use ids::{Found, find};
+use ids::find;
 use judge::judge_pending;
-use kinds::{
-    BucketIndex, EnterAnswer, Entered, FeeRate, Height, Horizon, LeaveAnswer, Left,
-    MAX_PENDING_ENTRIES, State,
-};
+use kinds::{EnterError, FeeRate, Height, Horizon, LeaveError, MAX_PENDING_ENTRIES, State};
 use ladder::bucket_index_for_rate;
 use table::{capacity, insert_pending};
 
@@ -27,65 +24,39 @@ pub fn tx_entered(
     rate: FeeRate,
     height: Height,
     on: Horizon,
-) -> Entered
-    ensures { outcome (enter_answer result.answer) result.state pending.new ≡ enter_call (board_of on) state pending.old id.now rate height }
+) -> Result<State, EnterError>
+    ensures { outcome (enter_answer result) (state_or state result) pending.new ≡ enter_call (board_of on) state pending.old id.now rate height }
 {
     let used = state.pending;
     if !judge_pending(pending, used, on) {
-        return Entered {
-            answer: EnterAnswer::Damaged,
-            state,
-        };
+        return Err(EnterError::Damaged);
     }
-    let BucketIndex::Bucket(bucket) = bucket_index_for_rate(rate) else {
-        return Entered {
-            answer: EnterAnswer::BelowFloor,
-            state,
-        };
+    let Some(bucket) = bucket_index_for_rate(rate) else {
+        return Err(EnterError::BelowFloor);
     };
     let size = record_size(on);
-    match find(pending, size, used, id) {
-        Found::At(_) => Entered {
-            answer: EnterAnswer::AlreadyPending,
-            state,
-        },
-        Found::Gap(at) => {
-            if used == capacity(pending, size, MAX_PENDING_ENTRIES) {
-                return Entered {
-                    answer: EnterAnswer::PendingFull,
-                    state,
-                };
-            }
-            let bucket = bucket as u32;
-            insert_pending(pending, used, at, id, bucket, height, on);
-            Entered {
-                answer: EnterAnswer::Done,
-                state: state.with_pending(used + 1),
-            }
-        }
+    let Err(at) = find(pending, size, used, id) else {
+        return Err(EnterError::AlreadyPending);
+    };
+    if used == capacity(pending, size, MAX_PENDING_ENTRIES) {
+        return Err(EnterError::PendingFull);
     }
+    let bucket = bucket as u32;
+    insert_pending(pending, used, at, id, bucket, height, on);
+    Ok(state.with_pending(used + 1))
 }
 
 // Leave (id).
-pub fn tx_left(state: State, pending: &mut [u8], id: &[u8; 32], on: Horizon) -> Left
-    ensures { outcome (leave_answer result.answer) result.state pending.new ≡ leave_call (board_of on) state pending.old id.now }
+pub fn tx_left(state: State, pending: &mut [u8], id: &[u8; 32], on: Horizon) -> Result<State, LeaveError>
+    ensures { outcome (leave_answer result) (state_or state result) pending.new ≡ leave_call (board_of on) state pending.old id.now }
 {
     let used = state.pending;
     if !judge_pending(pending, used, on) {
-        return Left {
-            answer: LeaveAnswer::Damaged,
-            state,
-        };
+        return Err(LeaveError::Damaged);
     }
     let left = forget(pending, used, id, on);
     if left == used {
-        return Left {
-            answer: LeaveAnswer::Absent,
-            state,
-        };
+        return Err(LeaveError::Absent);
     }
-    Left {
-        answer: LeaveAnswer::Done,
-        state: state.with_pending(left),
-    }
+    Ok(state.with_pending(left))
 }

@@ -8,27 +8,27 @@ ghost use Rattle.rules.specs.Calls.{estimate_call};
 
 use boards::column_of;
 use judge::sound_counts;
-use kinds::{Blocks, Estimated, Horizon, State};
+use kinds::{Blocks, Damaged, FeeRate, Horizon, State};
 use scan::rate_in_column;
 
-// The rate at which a transaction is confirmed within the target.
+// The rate at which a transaction is confirmed within the target, if there is one.
 pub fn estimate(
     state: State,
     confirmed: &[f64],
     resolved: &[f64],
     target: Blocks,
     on: Horizon,
-) -> Estimated
+) -> Result<Option<FeeRate>, Damaged>
     ensures { estimate_answer result ≡ estimate_call (board_of on) state confirmed.now resolved.now target }
 {
     if !sound_counts(confirmed) {
-        return Estimated::Damaged;
+        return Err(Damaged);
     }
     if !sound_counts(resolved) {
-        return Estimated::Damaged;
+        return Err(Damaged);
     }
     if target.0 == 0 {
-        return Estimated::NoRate;
+        return Ok(None);
     }
-    rate_in_column(confirmed, resolved, column_of(target, on))
+    Ok(rate_in_column(confirmed, resolved, column_of(target, on)))
 }

@@ -8,19 +8,19 @@ ghost use Rattle.rules.specs.Memory.{lent};
 ghost use Rattle.rules.specs.Slices.{before, after};
 ghost use Rattle.boundary.specs.Calls.{izr_bucket_index_for_rate, seen, izr_new, izr_tx_entered, izr_tx_left, izr_block_connected, izr_estimate, izr_to_history_bytes, izr_from_history_bytes};
 
-use kinds::{BUCKET_COUNT, Blocks, BucketIndex, FeeRate, Height, Horizon};
+use kinds::{BUCKET_COUNT, Blocks, FeeRate, Height, Horizon};
 use words::{
-    holds_state, id_in, room_and_word, state_and_id, state_and_word, state_in, tell_connected,
-    tell_entered, tell_estimated, tell_left, tell_reading, tell_started, tell_written,
+    holds_state, id_in, room_and_word, state_and_id, state_and_word, state_in, tell,
+    tell_estimated, tell_reading, tell_written,
 };
 
 // The bucket of a rate, or 142 where there is none.
 pub fn bucket_index_for_rate(rate: u64) -> u64
     ensures { result ≡ izr_bucket_index_for_rate rate }
 {
-    match ladder::bucket_index_for_rate(FeeRate(rate)) {
-        BucketIndex::NoBucket => BUCKET_COUNT as u64,
-        BucketIndex::Bucket(b) => b as u64,
+    match estimator::bucket_index_for_rate(FeeRate(rate)) {
+        None => BUCKET_COUNT as u64,
+        Some(b) => b as u64,
     }
 }
 
@@ -39,8 +39,8 @@ pub fn new(
     if state.len() < 4 {
         return 1;
     }
-    let started = starts::new(confirmed, resolved, pending, recent, on);
-    tell_started(state, started)
+    let started = estimator::new(confirmed, resolved, pending, recent, on);
+    tell(state, started)
 }
 
 // Enter (id, rate, height).
@@ -58,7 +58,7 @@ pub fn tx_entered(
         return 1;
     }
     let given = id_in(id);
-    let entered = entries::tx_entered(
+    let entered = estimator::tx_entered(
         state_in(state),
         pending,
         &given,
@@ -66,7 +66,7 @@ pub fn tx_entered(
         Height(height),
         on,
     );
-    tell_entered(state, entered)
+    tell(state, entered)
 }
 
 // Leave (id).
@@ -77,8 +77,8 @@ pub fn tx_left(state: &mut [u64], pending: &mut [u8], id: &[u8], on: Horizon) ->
         return 1;
     }
     let given = id_in(id);
-    let left = entries::tx_left(state_in(state), pending, &given, on);
-    tell_left(state, left)
+    let left = estimator::tx_left(state_in(state), pending, &given, on);
+    tell(state, left)
 }
 
 // Block (ids, height).
@@ -98,7 +98,7 @@ pub fn block_connected(
     if !holds_state(state) {
         return 1;
     }
-    let connected = blocks::block_connected(
+    let connected = estimator::block_connected(
         state_in(state),
         confirmed,
         resolved,
@@ -108,7 +108,7 @@ pub fn block_connected(
         Height(height),
         on,
     );
-    tell_connected(state, connected)
+    tell(state, connected)
 }
 
 // Estimate (target). It carries the rate, or 0 where there is none.
@@ -125,7 +125,7 @@ pub fn estimate(
     if !state_and_word(state, carried) {
         return 1;
     }
-    let estimated = estimates::estimate(state_in(state), confirmed, resolved, Blocks(target), on);
+    let estimated = estimator::estimate(state_in(state), confirmed, resolved, Blocks(target), on);
     tell_estimated(carried, estimated)
 }
 
@@ -146,14 +146,13 @@ pub fn to_history_bytes(
     if !state_and_word(state, carried) {
         return 1;
     }
-    let written = history::to_history_bytes(
+    let written = estimator::to_history_bytes(
         state_in(state),
         confirmed,
         resolved,
         pending,
         recent,
         out,
-        history::own_version(on),
         on,
     );
     tell_written(carried, written)
@@ -176,13 +175,12 @@ pub fn from_history_bytes(
     if !room_and_word(state, carried) {
         return 1;
     }
-    let reading = history::from_history_bytes(
+    let reading = estimator::from_history_bytes(
         bytes,
         confirmed,
         resolved,
         pending,
         recent,
-        history::own_version(on),
         on,
     );
     tell_reading(state, carried, reading)

@@ -10,7 +10,7 @@ ghost use Rattle.rules.specs.Slices.{given, before, after};
 ghost use Rattle.rules.specs.Calls.{outcome, accepted};
 ghost use Rattle.ready.specs.Ready.{Ready};
 
-use kinds::{Blocks, Height, Horizon, Last, State};
+use kinds::{Blocks, Height, Horizon, State};
 
 // Advances height h: pending records gain what they have outwaited, every count decays, and old confirmed records go.
 pub fn advance_height(
@@ -32,7 +32,7 @@ pub fn advance_height(
     decay::apply_decay(confirmed, resolved, boards::factor_of(on), Blocks(1));
     let young = expiry::prune_confirmed(recent, kept, h);
     State {
-        last: Last::At(h),
+        last: Some(h),
         pending: waiting,
         recent: young,
     }
@@ -80,7 +80,7 @@ fn advance_heights(
     let top = from + count;
     decay::apply_decay(confirmed, resolved, boards::factor_of(on), Blocks(left));
     State {
-        last: Last::At(Height(top)),
+        last: Some(Height(top)),
         pending: 0,
         recent: 0,
     }
@@ -101,7 +101,7 @@ pub fn skip_heights(
         ≡ accepted (board_of on) (skip_heights (board_of on) state.last h.0 (view (board_of on) state (before confirmed resolved pending recent))) (before confirmed resolved pending recent) }
 {
     let last = state.last;
-    let Last::At(low) = last else {
+    let Some(low) = last else {
         return state;
     };
     let from = low.0;

@@ -9,7 +9,6 @@ use native.Mathlib.Omega.{arith}
 use lib.ListN.{length, drop, get_or, drop_of_length-le}
 use lib.Seq.{drop-cons, get_or-drop}
 use lib.Ieee.{Float, nan, binary64, of_bits, add}
-use borrow.Author.Tests.{lt-ltb, le-ltb}
 use Rattle.rules.specs.Ladder.{ladder, buckets}
 use Rattle.rules.specs.Counts.{nought}
 use Rattle.rules.specs.Estimate.{Sums, passes, column, add_bucket, sums_down_to, rate_in_column}
@@ -78,6 +77,6 @@ shown_turn c cs rs n s t p h k q lc lr w e =
     ∙ rw (get_or_within cs i nan nought (omega arith), get_or_within rs i nan nought (omega arith)) (sym (sums_more c cs rs b (omega arith)))
 
 -- the rate of the last bucket that passes, of all
-pub last_rate : (c : ℕ) (cs rs : List Float) (s : Scan) → shown s ≡ sums_of c cs rs 0 → option_map ladder s.best ≡ rate_in_column c cs rs
+pub last_rate : (c : ℕ) (cs rs : List Float) (n : ℕ) → n ≡ 0 → (s : Scan) → shown s ≡ sums_of c cs rs n → option_map ladder s.best ≡ rate_in_column c cs rs
 unfolding shown rate_in_column
-last_rate c cs rs s e = ap (λ (t : Sums). t.rate) e
+last_rate c cs rs n z s e = ap (λ (t : Sums). t.rate) (e ∙ ap (sums_of c cs rs) z)

@@ -66,5 +66,6 @@ pub fn rate_in_column(confirmed: &[f64], resolved: &[f64], c: usize) -> Option<F
         let at = b * MAX_CONF_TARGET + place;
         s = add_bucket(s, b, confirmed[at], resolved[at]);
     }
-    s.best.map(ladder::rate_at)
+    let best = s.best?;
+    Some(ladder::rate_at(best))
 }

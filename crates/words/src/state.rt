@@ -1,9 +1,9 @@
 // The state in four words: whether there is a last height (1 or 0), the height (0 where there is none), and how many pending and confirmed records are
 // used. Anything after the four words is neither read nor written.
 ghost use Rattle.std.specs.Prelude.{◌≡◌, true, ◌≤◌, ◌<◌, ◌^◌, length};
-ghost use Rattle.boundary.specs.Words.{holds_last, holds_state, last_in, state_in, flag_of, height_of, put_state, put_if_done};
+ghost use Rattle.boundary.specs.Words.{holds_last, holds_state, last_in, state_in, flag_of, height_of, put_state};
 
-use kinds::{Height, Last, State};
+use kinds::{Height, State};
 
 // One more than the highest height.
 const HEIGHTS: u64 = 4294967296;
@@ -37,14 +37,14 @@ pub fn holds_state(words: &[u64]) -> bool
 
 // The last height that the two words hold.
 #[tactic(auto, unfolding(boundary::specs::Words::last_in))]
-fn last_in(flag: u64, height: u64) -> Last
+fn last_in(flag: u64, height: u64) -> Option<Height>
     requires { height < 2 ^ 32 }
     ensures { result ≡ last_in flag height }
 {
     if flag == 0 {
-        return Last::Nothing;
+        return None;
     }
-    Last::At(Height(height as u32))
+    Some(Height(height as u32))
 }
 
 // The state that words hold.
@@ -66,22 +66,22 @@ pub fn state_in(words: &[u64]) -> State
 }
 
 // Whether there is a last height, as a word.
-fn flag_of(last: Last) -> u64
+fn flag_of(last: Option<Height>) -> u64
     ensures { result ≡ flag_of last }
 {
     match last {
-        Last::Nothing => 0,
-        Last::At(_) => 1,
+        None => 0,
+        Some(_) => 1,
     }
 }
 
 // The last height as a word, or 0 where there is none.
-fn height_of(last: Last) -> u64
+fn height_of(last: Option<Height>) -> u64
     ensures { result ≡ height_of last }
 {
     match last {
-        Last::Nothing => 0,
-        Last::At(h) => h.0 as u64,
+        None => 0,
+        Some(h) => h.0 as u64,
     }
 }
 
@@ -96,17 +96,4 @@ pub(crate) fn put_state(words: &mut [u64], s: State)
     words[1] = height_of(last);
     words[2] = s.pending as u64;
     words[3] = s.recent as u64;
-}
-
-// Puts the state into the first four words where the number is that of Done, and hands the number on.
-#[tactic(auto, unfolding(boundary::specs::Words::put_if_done))]
-pub(crate) fn put_if_done(words: &mut [u64], number: u32, s: State) -> u32
-    requires { 4 ≤ length words.old }
-    ensures { (result ≡ number) × (words.new ≡ put_if_done result s words.old) }
-{
-    if number != 0 {
-        return number;
-    }
-    put_state(words, s);
-    number
 }

@@ -1,4 +1,3 @@
-use Prim.Native.Nat.{◌-◌}
 use native.Mathlib.Omega.{arith}
 use Rattle.ladder.proofs.Closing.{start, above, below, found}
 use Rattle.ladder.proofs.last_not_above.Goals as goal

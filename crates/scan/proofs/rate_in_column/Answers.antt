@@ -1,26 +1,28 @@
-use Rattle.std.proofs.Common.{rules, ◌≡◌, ◌≤◌, ◌<◌, length, option_map, IfSome, ℕ, ◌+◌, ◌-◌, ◌*◌, ◌/◌, ◌%◌, Bool, true, false, nat_eq, nat_lt, List, [], ◌∷◌, ◌++◌, slice_index_or, slice_set, bit_and, bit_or, Fits, w8, w32, w64, Bor, MutBor}
-use Rattle.rules.specs.Ladder.{buckets}
-use Rattle.rules.specs.Counts.{columns, places_of_counts}
-use Rattle.rules.specs.Estimate.{passes, add_bucket, rate_in_column}
-use Rattle.scan.specs.Sums.{shown}
+-- `scan::rate_in_column` meets its contract. Assumes nothing.
+use mathlib.Core.Path.{sym, ap, ◌∙◌}
+use native.Mathlib.Omega.{arith}
+use Rattle.std.specs.Prelude.{Some, option_map}
+use Rattle.rules.specs.Ladder.{ladder}
+use Rattle.std.proofs.Common.{rules}
+use Rattle.scan.proofs.Scanning.{shown_none, shown_turn, last_rate}
 use Rattle.scan.proofs.rate_in_column.Goals as goal
 
--- src/lib.rt:65:5
 pub loop-b-init : goal.loop-b-init
-loop-b-init c = ?
+loop-b-init c = record { sums = shown_none c.args.c c.args.confirmed.now c.args.resolved.now; best = search rules }
 
--- src/lib.rt:67:9
-pub add_bucket-s-requires-clause-best : goal.add_bucket-s-requires-clause-best
-add_bucket-s-requires-clause-best c = ?
-
--- src/lib.rt:65:5
 pub loop-b-preserved : goal.loop-b-preserved
-loop-b-preserved c = ?
+loop-b-preserved c = record {
+  sums =
+      shown_turn c.args.c c.args.confirmed.now c.args.resolved.now c.loop-b.b c.loop-b.s _ (omega arith) (omega arith) (omega arith) (omega arith) (omega arith) (omega arith)
+      c.loop-b.invariant.sums c.add_bucket-s.ensures.sums;
+  best = c.add_bucket-s.ensures.best;
+}
 
--- src/lib.rt:69:5
-pub map-requires : goal.map-requires
-map-requires c = ?
+pub returns-in_err-best : goal.returns-in_err-best
+returns-in_err-best c =
+    rw c.from_residual.ensures
+    (ap (option_map ladder) (sym c.in_err-best.was) ∙ last_rate _ _ _ c.loop-b.b (omega arith) c.loop-b.s c.loop-b.invariant.sums)
 
--- src/lib.rt:55:1
 pub returns : goal.returns
-returns c = ?
+returns c =
+    ap Some c.rate_at.ensures ∙ ap (option_map ladder) (sym c.in_ok-best.was) ∙ last_rate _ _ _ c.loop-b.b (omega arith) c.loop-b.s c.loop-b.invariant.sums
