@@ -8,12 +8,14 @@ use mathlib.Core.List.{List}
 use lib.Dec.{ltb}
 use lib.ListN.{length, get_or, drop}
 use borrow.Author.Tests.{ltb-true, ltb-false, lt-ltb, le-ltb}
+use Rattle.rules.specs.Ids.{below}
+use Rattle.std.specs.Ordering.{is_lt}
 use Rattle.mem.specs.Be.{be_at}
 use Rattle.mem.proofs.Laws.{be_at_4}
-use Rattle.std.specs.Ordering.{Ordering}
-use Rattle.std.specs.Ordering.{Less, Greater}
+use Rattle.std.specs.declared.cmp.Ordering.{Ordering}
+use Rattle.std.specs.declared.cmp.Ordering.TheVariants.{Less, Greater}
 use Rattle.ids.specs.Search.{cmp}
-use Rattle.ids.proofs.Ids.{Below, id32, cmp_turn, cmp_below}
+use Rattle.ids.proofs.Ids.{Below, id32, cmp_turn, cmp_below, below_cmp_is}
 
 -- two numbers decide, or the rest
 abbrev pub step : ℕ → ℕ → Ordering → Ordering
@@ -112,3 +114,15 @@ module _ (a : List ℕ) (p : ℕ) (b : List ℕ) (q : ℕ) (ha : p + 32 ≤ leng
       let f : q + 0 ≡ q = omega arith in
       let k : be_at 4 a (p + 0) < be_at 4 b (q + 0) = rw (e, f) h in
       cmp_below (id32 p a) (id32 q b) (word_turn 0 (omega arith) ∙ less (be_at 4 a (p + 0)) (be_at 4 b (q + 0)) (left 4) k)
+
+  -- where they differ, that of the lower id is the lower
+  pub words_tell : (be_at 4 a p ≡ be_at 4 b q → ⊥) → ltb (be_at 4 a p) (be_at 4 b q) ≡ below (id32 p a) (id32 q b)
+  words_tell n = go (ltb (be_at 4 a p) (be_at 4 b q)) refl
+    where
+      go : (t : Bool) → ltb (be_at 4 a p) (be_at 4 b q) ≡ t → t ≡ below (id32 p a) (id32 q b)
+      go true h = sym (words_below (ltb-true _ _ h))
+      go false h =
+          let e : p + 0 ≡ p = omega arith in
+          let f : q + 0 ≡ q = omega arith in
+          let k : be_at 4 b (q + 0) < be_at 4 a (p + 0) = rw (e, f) (omega (arith, n, ltb-false _ _ h)) in
+          sym (below_cmp_is (id32 p a) (id32 q b) ∙ ap is_lt (word_turn 0 (omega arith) ∙ more (be_at 4 a (p + 0)) (be_at 4 b (q + 0)) (left 4) k))

@@ -11,7 +11,8 @@ use lib.ListN.{length, get_or, drop}
 use lib.Seq.{drop-cons}
 use Rattle.rules.specs.Ids.{Id, below, rising}
 use Rattle.rules.proofs.Records.{and_left, and_right}
-use Rattle.ids.specs.Search.{cmp, is_less}
+use Rattle.std.specs.Ordering.{is_lt}
+use Rattle.ids.specs.Search.{cmp}
 use Rattle.rules.proofs.Ids.{below_trans}
 use Rattle.ids.proofs.Ids.{Below, below_cmp_is}
 
@@ -47,7 +48,7 @@ module _ (js : List Id) (id : Id) (e : rising js ≡ true) (m : ℕ) (l : m < le
   below_at h i k = rw h at (rising_below js e i m k l)
 
 -- a turn of the loop that looks at two neighbours, and its end
-pub rising_turn : (js : List Id) (i : ℕ) → i + 1 < length js → rising (drop i js) ≡ is_less (cmp (get_or js i []) (get_or js (i + 1) [])) && rising (drop (i + 1) js)
+pub rising_turn : (js : List Id) (i : ℕ) → i + 1 < length js → rising (drop i js) ≡ is_lt (cmp (get_or js i []) (get_or js (i + 1) [])) && rising (drop (i + 1) js)
 unfolding rising
 rising_turn js i h =
     let a : i < length js = omega arith in

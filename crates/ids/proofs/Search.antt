@@ -8,8 +8,8 @@ use native.Mathlib.Omega.{arith}
 use lib.ListN.{length, get_or}
 use Rattle.rules.specs.Ids.{Id}
 use Rattle.ids.specs.Search.{cmp, decide, find_from}
-use Rattle.std.specs.Ordering.{Ordering}
-use Rattle.std.specs.Ordering.{Less, Equal, Greater}
+use Rattle.std.specs.declared.cmp.Ordering.{Ordering}
+use Rattle.std.specs.declared.cmp.Ordering.TheVariants.{Less, Equal, Greater}
 use Rattle.ids.proofs.Ids.{Below, below_cmp, below_turned, cmp_below, cmp_above, cmp_equal, cmp_refl}
 
 pub find_gap : (id : Id) (k : ℕ) (js : List Id) (n : ℕ) → n ≤ length js → ((i : ℕ) → i < n → Below (get_or js i []) id) → (n < length js → Below id (get_or js n []))

@@ -1,8 +1,8 @@
 -- The order of ids as one of three, and where an id stands among rising ids, or belongs. Assumes nothing.
-use Rattle.std.specs.Prelude.{ℕ, suc, Bool, true, false, cond, List, [], ◌∷◌, ltb, Ok, Err}
+use Rattle.std.specs.Prelude.{ℕ, suc, cond, List, [], ◌∷◌, ltb, Result, Ok, Err}
 use Rattle.rules.specs.Ids.{Id}
-use Rattle.std.specs.Ordering.{Ordering}
-use Rattle.std.specs.Ordering.{Less, Equal, Greater}
+use Rattle.std.specs.declared.cmp.Ordering.{Ordering}
+use Rattle.std.specs.declared.cmp.Ordering.TheVariants.{Less, Equal, Greater}
 
 -- the order of two ids, byte by byte
 unfoldable pub cmp : Id → Id → Ordering
@@ -11,11 +11,9 @@ cmp [] (y ∷ ys) = Less
 cmp (x ∷ xs) [] = Greater
 cmp (x ∷ xs) (y ∷ ys) = cond (ltb x y) Less (cond (ltb y x) Greater (cmp xs ys))
 
--- whether an order is Less
-abbrev pub is_less : Ordering → Bool
-is_less Less = true
-is_less Equal = false
-is_less Greater = false
+-- what a search finds: `Ok` with the number where the id stands, `Err` with the number where it belongs
+abbrev pub Found : Type 0
+Found = Result ℕ ℕ
 
 -- what a look at one id decides: below the one that is looked for, go on; the id itself; above it, it is missing
 abbrev pub decide : Ordering → Found → Found → Found → Found

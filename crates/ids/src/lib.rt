@@ -9,17 +9,11 @@ ghost use Rattle.rules.specs.Ids.{rising};
 ghost use Rattle.rules.specs.Records.{records, id_of};
 ghost use Rattle.ids.specs.Search.{find_in};
 
-pub use order::{Order, compare, ids_rise, is_below};
+pub use order::{compare, ids_rise, is_below};
+use std::cmp::Ordering;
 
-// What a search for an id finds: the number of its record, or of the place where it belongs.
-#[derive(Clone, Copy)]
-pub enum Found {
-    At(usize),
-    Gap(usize),
-}
-
-// Where `id` stands among the first `used` records, or where it belongs. Where the first words of two ids differ they decide.
-pub fn find(table: &[u8], size: usize, used: usize, id: &[u8]) -> Found
+// Where `id` stands among the first `used` records (`Ok`), or where it belongs (`Err`). Where the first words of two ids differ they decide.
+pub fn find(table: &[u8], size: usize, used: usize, id: &[u8]) -> Result<usize, usize>
     requires le_size { (32 ≤ size) × (used * size ≤ length table.now) }
     requires table_value { rising (map id_of (records size used table.now)) ≡ true }
     requires id_len { length id.now ≡ 32 }
@@ -37,18 +31,18 @@ pub fn find(table: &[u8], size: usize, used: usize, id: &[u8]) -> Found
         } else if first < word {
             hi = mid;
         } else {
-            match order::compare_id(table, at, id) {
-                Order::Less => {
+            match table[at..at + 32].cmp(id) {
+                Ordering::Less => {
                     lo = mid + 1;
                 }
-                Order::Equal => {
-                    return Found::At(mid);
+                Ordering::Equal => {
+                    return Ok(mid);
                 }
-                Order::Greater => {
+                Ordering::Greater => {
                     hi = mid;
                 }
             }
         }
     }
-    Found::Gap(lo)
+    Err(lo)
 }

@@ -1,3 +1,4 @@
+use Rattle.std.specs.Prelude.{Ok, Err}
 use mathlib.Core.Path.{◌≡◌, sym, ap, ◌∙◌}
 use mathlib.Core.List.{List, [], map}
 use Prim.Native.Nat.{ℕ, ◌+◌, ◌*◌, ◌-◌, ◌/◌, ◌≤◌, ◌<◌}
@@ -8,8 +9,7 @@ use lib.Seq.{take_all}
 use Rattle.rules.specs.Ids.{Id, below}
 use Rattle.rules.specs.Records.{records, id_of}
 use Rattle.mem.specs.Be.{be_at}
-use Rattle.ids.specs.Search.{Found}
-use Rattle.ids.proofs.Ids.{Below, id32, cmp_below, cmp_equal, cmp_above}
+use Rattle.ids.proofs.Ids.{Below, id32, cmp_below, cmp_equal, cmp_above, cmp_told}
 use Rattle.ids.proofs.First.{words_below}
 use Rattle.ids.proofs.Records.{length_ids, get_or_ids, record_end}
 use Rattle.ids.proofs.Rising.{below_up, below_down, below_at}
@@ -96,27 +96,24 @@ pub overflow_add-lo : goal.overflow_add-lo
 overflow_add-lo c = omega (arith, mid< (goal.at.overflow_add-lo c).In-loop-lo)
 
 pub loop-lo-preserved-then-word-first : goal.loop-lo-preserved-then-word-first
-loop-lo-preserved-then-word-first c = lower (goal.at.loop-lo-preserved-then-word-first c).In-loop-lo (words_under (goal.at.loop-lo-preserved-then-word-first c).In-loop-lo (λ i. omega (arith, c.type_inv.table i)) (λ i. omega (arith, c.type_inv.id i)) (omega (arith, c.if-word-first.true, c.u32_be-word.ensures, c.u32_be-first.ensures)))
+loop-lo-preserved-then-word-first c = lower (goal.at.loop-lo-preserved-then-word-first c).In-loop-lo (words_under (goal.at.loop-lo-preserved-then-word-first c).In-loop-lo (λ i. omega (arith, c.type_inv.table i)) (λ i. search rules) (omega (arith, c.if-word-first.true, c.u32_be-word.ensures, c.u32_be-first.ensures)))
 
 pub loop-lo-preserved-then-first-word : goal.loop-lo-preserved-then-first-word
-loop-lo-preserved-then-first-word c = upper (goal.at.loop-lo-preserved-then-first-word c).In-loop-lo (words_over (goal.at.loop-lo-preserved-then-first-word c).In-loop-lo (λ i. omega (arith, c.type_inv.table i)) (λ i. omega (arith, c.type_inv.id i)) (omega (arith, c.if-first-word.true, c.u32_be-word.ensures, c.u32_be-first.ensures)))
-
-pub compare_id-requires : goal.compare_id-requires
-compare_id-requires c = record { at_in_bounds = omega (arith, end (goal.at.compare_id-requires c).In-loop-lo); id_len = search rules }
+loop-lo-preserved-then-first-word c = upper (goal.at.loop-lo-preserved-then-first-word c).In-loop-lo (words_over (goal.at.loop-lo-preserved-then-first-word c).In-loop-lo (λ i. omega (arith, c.type_inv.table i)) (λ i. search rules) (omega (arith, c.if-first-word.true, c.u32_be-word.ensures, c.u32_be-first.ensures)))
 
 pub overflow_add-lo-in-Less : goal.overflow_add-lo-in-Less
 overflow_add-lo-in-Less c = omega (arith, mid< (goal.at.overflow_add-lo-in-Less c).In-loop-lo)
 
 pub loop-lo-preserved-in-Less : goal.loop-lo-preserved-in-Less
-loop-lo-preserved-in-Less c = (lower (goal.at.loop-lo-preserved-in-Less c).In-loop-lo (rw (mid_id (goal.at.loop-lo-preserved-in-Less c).In-loop-lo) (cmp_below _ _ (sym c.compare_id.ensures ∙ c.in-Less.is))))
+loop-lo-preserved-in-Less c = (lower (goal.at.loop-lo-preserved-in-Less c).In-loop-lo (rw (mid_id (goal.at.loop-lo-preserved-in-Less c).In-loop-lo) (cmp_below _ _ (cmp_told _ c.args.table.now c.args.id.now c.cmp.ensures c.in-Less.is))))
 
 pub returns-in-Equal : goal.returns-in-Equal
 returns-in-Equal c =
-    let b : get_or (js (goal.at.returns-in-Equal c).In-loop-lo) (mid (goal.at.returns-in-Equal c).In-loop-lo) [] ≡ c.args.id.now = mid_id (goal.at.returns-in-Equal c).In-loop-lo ∙ cmp_equal _ _ (sym c.compare_id.ensures ∙ c.in-Equal.is) in
+    let b : get_or (js (goal.at.returns-in-Equal c).In-loop-lo) (mid (goal.at.returns-in-Equal c).In-loop-lo) [] ≡ c.args.id.now = mid_id (goal.at.returns-in-Equal c).In-loop-lo ∙ cmp_equal _ _ (cmp_told _ c.args.table.now c.args.id.now c.cmp.ensures c.in-Equal.is) in
     sym (find_at c.args.id.now 0 (js (goal.at.returns-in-Equal c).In-loop-lo) (mid (goal.at.returns-in-Equal c).In-loop-lo) (mid_in (goal.at.returns-in-Equal c).In-loop-lo) (below_at (js (goal.at.returns-in-Equal c).In-loop-lo) c.args.id.now c.requires.table_value (mid (goal.at.returns-in-Equal c).In-loop-lo) (mid_in (goal.at.returns-in-Equal c).In-loop-lo) b) b ∙ ap Ok (zero-add (mid (goal.at.returns-in-Equal c).In-loop-lo)))
 
 pub loop-lo-preserved : goal.loop-lo-preserved
-loop-lo-preserved c = (upper (goal.at.loop-lo-preserved c).In-loop-lo (rw (mid_id (goal.at.loop-lo-preserved c).In-loop-lo) (cmp_above _ _ (sym c.compare_id.ensures ∙ c.in-Greater.is))))
+loop-lo-preserved c = (upper (goal.at.loop-lo-preserved c).In-loop-lo (rw (mid_id (goal.at.loop-lo-preserved c).In-loop-lo) (cmp_above _ _ (cmp_told _ c.args.table.now c.args.id.now c.cmp.ensures c.in-Greater.is))))
 
 pub returns : goal.returns
 returns c =

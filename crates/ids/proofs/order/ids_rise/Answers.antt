@@ -8,7 +8,7 @@ use Rattle.ids.proofs.Records.{length_ids, record_end}
 use Rattle.ids.proofs.Rising.{rising_short}
 use Rattle.ids.proofs.Climb.{above, starts, two_ends, quick, goes_on, stops, ends}
 use Rattle.ids.proofs.order.ids_rise.Goals as goal
-use Rattle.ids.proofs.order.ids_rise.Goals.{then-next-last+else-not-is_below, else-next-last}
+use Rattle.ids.proofs.order.ids_rise.Goals.{else-next-last-via-then-next-last+else-not-is_below, else-next-last-via-else-next-last}
 
 pub returns-then-used-eq0 : goal.returns-then-used-eq0
 returns-then-used-eq0 c =
@@ -24,29 +24,29 @@ loop-i-init c = starts c.requires.0 c.requires.1 (omega arith) c.u32_be-last.ens
 
 pub returns-then-not-is_below : goal.returns-then-not-is_below
 returns-then-not-is_below c =
-    sym (stops c.loop-i.invariant c.loop-i-test.true (sym c.is_below.ensures ∙ c.if-not-is_below.true))
+    sym (stops c.loop-i.invariant (omega arith) (sym c.is_below.ensures ∙ c.if-not-is_below.true))
 
 pub loop-i-preserved : goal.loop-i-preserved
 loop-i-preserved c =
     -- the two ids rise: the words said so, or all bytes did
     let rise : above c.args.size c.args.table.now c.loop-i.i ≡ true =
-    elim c.if-next-last.branch [
-      | then-next-last+else-not-is_below w ↦ sym w.is_below.ensures ∙ w.if-not-is_below.false
-      | else-next-last w ↦ quick c.loop-i.invariant (λ j. omega (arith, c.type_inv.table j)) c.u32_be-next.ensures c.loop-i-test.true (omega (arith, w.if-next-last.false))
+    elim c.else-next-last.branch [
+      | else-next-last-via-then-next-last+else-not-is_below w ↦ sym w.is_below.ensures ∙ w.if-not-is_below.false
+      | else-next-last-via-else-next-last w ↦ quick c.loop-i.invariant (λ j. omega (arith, c.type_inv.table j)) c.u32_be-next.ensures (omega arith) (omega (arith, w.if-next-last.false))
     ] in
-    goes_on c.loop-i.invariant c.u32_be-next.ensures c.loop-i-test.true rise
+    goes_on c.loop-i.invariant c.u32_be-next.ensures (omega arith) rise
 
 pub overflow_mul-at : goal.overflow_mul-at
-overflow_mul-at c = omega (arith, two_ends c.loop-i.invariant c.loop-i-test.true)
+overflow_mul-at c = omega (arith, two_ends c.loop-i.invariant (omega arith))
 
 pub u32_be-next-requires : goal.u32_be-next-requires
-u32_be-next-requires c = omega (arith, two_ends c.loop-i.invariant c.loop-i-test.true)
+u32_be-next-requires c = omega (arith, two_ends c.loop-i.invariant (omega arith))
 
 pub overflow_sub-at : goal.overflow_sub-at
-overflow_sub-at c = omega (arith, two_ends c.loop-i.invariant c.loop-i-test.true)
+overflow_sub-at c = omega (arith, two_ends c.loop-i.invariant (omega arith))
 
 pub is_below-requires : goal.is_below-requires
-is_below-requires c = omega (arith, two_ends c.loop-i.invariant c.loop-i-test.true)
+is_below-requires c = omega (arith, two_ends c.loop-i.invariant (omega arith))
 
 pub returns : goal.returns
-returns c = sym (ends c.loop-i.invariant c.loop-i-test.false)
+returns c = sym (ends c.loop-i.invariant (omega arith))
