@@ -41,9 +41,9 @@ module _ {L : Type 0} (ws : List ℕ) (a : Answer) (s : State) (l : L) (o : Outc
       ap₂ (λ (us bs : List ℕ). seen n us bs l) q r ∙ ap (λ (m : ℕ). seen m (put_if_done m s ws) (carry a.carries cs) l) p ∙ ap (begun ws cs) e
 
 -- what is put into the words of a call: refused, they are the words of the state that they hold
-pub put_told : {E : Type 0} (r : Result State E) (ws : List ℕ) → holds_state ws ≡ true → put_ok r ws ≡ put_state (state_or (state_in ws) r) ws
-put_told (Ok s) ws h = refl
-put_told (Err e) ws h = sym (words.own ws h)
+pub put_told : {E : Type 0} (r : Result State E) (ws : List ℕ) → holds_state ws ≡ true → (s : State) → s ≡ state_in ws → put_ok r ws ≡ put_state (state_or s r) ws
+put_told (Ok t) ws h s e = refl
+put_told (Err f) ws h s e = rw e (sym (words.own ws h))
 
 -- and into those of a call that begins a run
 pub put_begun : {E : Type 0} (refusal : E → Answer) → ((e : E) → 0 < (refusal e).number) → (s : State) (r : Result State E) (ws : List ℕ)

@@ -1,11 +1,10 @@
 // The state that a line names, and the calls that change the estimator: each gives its answer, and the state after it.
 ghost use Rattle.std.specs.Prelude.{◌≡◌};
-ghost use Rattle.kinds.specs.Answers.{read_answer};
+ghost use Rattle.kinds.specs.Answers.{answer_of, read_answer, state_or};
 ghost use Rattle.rules.specs.Slices.{before, after};
-ghost use Rattle.desk_calls.specs.Calls.{did, numbered, height_of, last_of, state_of, id_of, kept, reply_of, enter_does, leave_does, start_does, block_does, read_does};
+ghost use Rattle.desk_calls.specs.Calls.{did, numbered, height_of, last_of, state_of, id_of, reply_of, enter_does, leave_does, start_does, block_does, read_does};
 
-use history::{from_history_bytes, own_version};
-use kinds::{FeeRate, Height, Horizon, ID_SIZE, Last, ReadAnswer, State};
+use kinds::{FeeRate, Height, Horizon, ID_SIZE, ReadError, Refusal, State, number_of};
 use lines::Line;
 use print::put;
 
@@ -36,13 +35,13 @@ fn height(n: u64) -> Height
 }
 
 // A last height, told plus 1, or 0 for none.
-fn last_in(n: u64) -> Last
+fn last_in(n: u64) -> Option<Height>
     ensures { result ≡ last_of n }
 {
     if n == 0 {
-        return Last::Nothing;
+        return None;
     }
-    Last::At(height(n - 1))
+    Some(height(n - 1))
 }
 
 // state: the state that the line names.
@@ -66,14 +65,21 @@ fn id_in(bytes: &[u8]) -> [u8; 32]
     id
 }
 
-// A call that is answered with its number alone.
-fn numbered(number: u32, state: State) -> Done
-    ensures { result ≡ numbered number state }
+// What a call has done that is answered with its number alone. Refused, it leaves the state before it.
+fn numbered<E: Refusal>(answered: Result<State, E>, before: State) -> Done
+    ensures { result ≡ numbered (answer_of E.answer answered).number (state_or before answered) }
 {
-    Done {
-        fits: true,
-        reply: Reply::Number(number),
-        state,
+    match answered {
+        Ok(state) => Done {
+            fits: true,
+            reply: Reply::Number(0),
+            state,
+        },
+        Err(refusal) => Done {
+            fits: true,
+            reply: Reply::Number(refusal.number()),
+            state: before,
+        },
     }
 }
 
@@ -82,9 +88,12 @@ pub fn enter(line: Line, state: State, text: &[u8], pending: &mut [u8], on: Hori
     ensures { did result pending.new ≡ enter_does on line state text.now pending.old }
 {
     let id = id_in(text);
-    let r = entries::tx_entered(state, pending, &id, FeeRate(line.b), height(line.c), on);
-    let answer = r.answer;
-    numbered(answer.number(), r.state)
+    let rate = FeeRate(line.b);
+    let height = height(line.c);
+    numbered(
+        estimator::tx_entered(state, pending, &id, rate, height, on),
+        state,
+    )
 }
 
 // leave
@@ -92,19 +101,7 @@ pub fn leave(state: State, text: &[u8], pending: &mut [u8], on: Horizon) -> Done
     ensures { did result pending.new ≡ leave_does on state text.now pending.old }
 {
     let id = id_in(text);
-    let r = entries::tx_left(state, pending, &id, on);
-    let answer = r.answer;
-    numbered(answer.number(), r.state)
-}
-
-// The state after a start or a reading with this number: a refused one leaves the one before.
-fn kept(number: u32, after: State, before: State) -> State
-    ensures { result ≡ kept number after before }
-{
-    if number == 0 {
-        return after;
-    }
-    before
+    numbered(estimator::tx_left(state, pending, &id, on), state)
 }
 
 // start
@@ -119,10 +116,10 @@ pub fn start(
     ensures { did result (after confirmed resolved pending recent)
         ≡ start_does on state (before confirmed resolved pending recent) }
 {
-    let r = starts::new(confirmed, resolved, pending, recent, on);
-    let answer = r.answer;
-    let number = answer.number();
-    numbered(number, kept(number, r.state, state))
+    numbered(
+        estimator::new(confirmed, resolved, pending, recent, on),
+        state,
+    )
 }
 
 // block and blockraw
@@ -140,18 +137,21 @@ pub fn block(
         ≡ block_does on line state ids.now (before confirmed resolved pending recent) }
 {
     let height = height(line.a);
-    let r = blocks::block_connected(state, confirmed, resolved, pending, recent, ids, height, on);
-    let answer = r.answer;
-    numbered(answer.number(), r.state)
+    numbered(
+        estimator::block_connected(
+            state, confirmed, resolved, pending, recent, ids, height, on,
+        ),
+        state,
+    )
 }
 
 // What a reading is answered with: an unknown version is told.
-fn reply_of(answer: ReadAnswer) -> Reply
-    ensures { result ≡ reply_of (read_answer answer) }
+fn reply_of(reading: Result<State, ReadError>) -> Reply
+    ensures { result ≡ reply_of (read_answer reading) }
 {
-    let number = answer.number();
-    match answer {
-        ReadAnswer::UnknownVersion(version) => Reply::Carrying(number, version as u64),
+    let number = number_of(reading);
+    match reading {
+        Err(ReadError::UnknownVersion(version)) => Reply::Carrying(number, version as u64),
         _ => Reply::Number(number),
     }
 }
@@ -169,14 +169,9 @@ pub fn read(
     ensures { did result (after confirmed resolved pending recent)
         ≡ read_does on state history.now (before confirmed resolved pending recent) }
 {
-    let version = own_version(on);
-    let r = from_history_bytes(history, confirmed, resolved, pending, recent, version, on);
-    let answer = r.answer;
-    let after = kept(answer.number(), r.state, state);
-    let reply = reply_of(answer);
+    let reading = estimator::from_history_bytes(history, confirmed, resolved, pending, recent, on);
     Done {
-        fits: true,
-        reply,
-        state: after,
+        reply: reply_of(reading),
+        ..numbered(reading, state)
     }
 }

@@ -6,7 +6,7 @@ ghost use Rattle.std.specs.Prelude.{◌≡◌};
 ghost use Rattle.print.specs.Page.{page, writes};
 ghost use Rattle.premise.specs.Premise.{between, beside, premise};
 
-use kinds::{Height, Last, MAX_GAP};
+use kinds::{Height, MAX_GAP};
 use print::{put, put_decimal};
 
 // The chain's height, where it is told.
@@ -77,13 +77,13 @@ fn put_beside(out: &mut [u8], at: usize, h: u32, n: u32) -> usize
 
 // What is said of a file with that last height; nothing where the chain's height is not told.
 #[tactic(auto, unfolding(crate::specs::Premise::premise, crate::specs::Premise::no_last, print::specs::Page::writes))]
-pub fn put_premise(out: &mut [u8], at: usize, chain: Chain, last: Last) -> usize
+pub fn put_premise(out: &mut [u8], at: usize, chain: Chain, last: Option<Height>) -> usize
     ensures { page out.new result ≡ writes (premise chain last) (page out.old at) }
 {
     let Chain::Tip(tip) = chain else {
         return at;
     };
-    let Last::At(height) = last else {
+    let Some(height) = last else {
         return put(
             out,
             at,

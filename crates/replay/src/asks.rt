@@ -9,10 +9,8 @@ use crate::says::{
 };
 use boards::width_of;
 use desk_lays::fill;
-use estimates::estimate;
-use history::{own_version, to_history_bytes};
-use kinds::{Blocks, Estimated, FeeRate, Horizon, MAX_CONF_TARGET, State, WriteAnswer};
-use ladder::bucket_index_for_rate;
+use estimator::{bucket_index_for_rate, estimate, to_history_bytes};
+use kinds::{Blocks, FeeRate, Horizon, MAX_CONF_TARGET, Refusal, State, WriteError};
 use lines::Line;
 use page::Operation;
 use print::put;
@@ -61,7 +59,7 @@ fn estimates(
 ) -> io::Result<()> {
     let e = estimate(state, confirmed, resolved, Blocks(1), on);
     match e {
-        Estimated::Damaged => say_estimate(out, e),
+        Err(_) => say_estimate(out, e),
         _ => say_targets(out, state, confirmed, resolved, on),
     }
 }
@@ -102,23 +100,19 @@ fn write(
     on: Horizon,
 ) -> io::Result<usize> {
     fill(buffer, 0xaa);
-    let version = own_version(on);
-    let w = to_history_bytes(
-        state, confirmed, resolved, pending, recent, buffer, version, on,
-    );
-    let answer = w.answer;
-    match answer {
-        WriteAnswer::Done => {
-            say_wrote(out, w.len, sum_bytes(buffer))?;
-            put(kept, 0, front(buffer, w.len));
-            Ok(w.len)
+    let written = to_history_bytes(state, confirmed, resolved, pending, recent, buffer, on);
+    match written {
+        Ok(len) => {
+            say_wrote(out, len, sum_bytes(buffer))?;
+            put(kept, 0, front(buffer, len));
+            Ok(len)
         }
-        WriteAnswer::Damaged => {
-            say_line(out, answer.number() as u64)?;
+        Err(WriteError::ShortOutput(needed)) => {
+            say_carrying(out, WriteError::ShortOutput(needed).number(), needed as u64)?;
             Ok(n)
         }
-        WriteAnswer::ShortOutput(needed) => {
-            say_carrying(out, answer.number(), needed as u64)?;
+        Err(refusal) => {
+            say_line(out, refusal.number() as u64)?;
             Ok(n)
         }
     }

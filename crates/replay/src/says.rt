@@ -1,6 +1,6 @@
 // What is written: each word as soon as it is known.
 use desk_calls::Reply;
-use kinds::{BucketIndex, Estimated, Last};
+use kinds::{Damaged, FeeRate, Height, Refusal};
 use std::io;
 
 // A number.
@@ -29,17 +29,17 @@ pub(crate) fn say_carrying(out: &impl Print, n: u32, carried: u64) -> io::Result
 }
 
 // The last height or `-`.
-pub(crate) fn say_last(out: &impl Print, last: Last) -> io::Result<()> {
+pub(crate) fn say_last(out: &impl Print, last: Option<Height>) -> io::Result<()> {
     match last {
-        Last::Nothing => say_text(out, "-"),
-        Last::At(h) => say(out, h.0 as u64),
+        None => say_text(out, "-"),
+        Some(h) => say(out, h.0 as u64),
     }
 }
 
 // An estimate as one word: a rate or `-`.
-pub(crate) fn say_target(out: &impl Print, e: Estimated) -> io::Result<()> {
+pub(crate) fn say_target(out: &impl Print, e: Result<Option<FeeRate>, Damaged>) -> io::Result<()> {
     match e {
-        Estimated::Rate(r) => say(out, r.0),
+        Ok(Some(r)) => say(out, r.0),
         _ => say_text(out, "-"),
     }
 }
@@ -54,11 +54,11 @@ pub(crate) fn say_reply(out: &impl Print, reply: Reply) -> io::Result<()> {
 }
 
 // An estimate as a line.
-pub(crate) fn say_estimate(out: &impl Print, e: Estimated) -> io::Result<()> {
+pub(crate) fn say_estimate(out: &impl Print, e: Result<Option<FeeRate>, Damaged>) -> io::Result<()> {
     match e {
-        Estimated::Damaged => say_line(out, e.number() as u64),
-        Estimated::NoRate => say_text(out, "none\n"),
-        Estimated::Rate(r) => {
+        Err(damaged) => say_line(out, damaged.number() as u64),
+        Ok(None) => say_text(out, "none\n"),
+        Ok(Some(r)) => {
             say_text(out, "rate ")?;
             say_line(out, r.0)
         }
@@ -66,10 +66,10 @@ pub(crate) fn say_estimate(out: &impl Print, e: Estimated) -> io::Result<()> {
 }
 
 // A bucket, or that there is none.
-pub(crate) fn say_bucket(out: &impl Print, b: BucketIndex) -> io::Result<()> {
+pub(crate) fn say_bucket(out: &impl Print, b: Option<usize>) -> io::Result<()> {
     match b {
-        BucketIndex::NoBucket => say_text(out, "none\n"),
-        BucketIndex::Bucket(n) => say_line(out, n as u64),
+        None => say_text(out, "none\n"),
+        Some(n) => say_line(out, n as u64),
     }
 }
 

@@ -12,8 +12,8 @@ ghost use Rattle.print.specs.Page.{page, writes};
 ghost use Rattle.report.specs.Shown.{told, named_by, reach, shown, printed};
 ghost use Rattle.report.specs.Rates.{answered};
 
-use history::{from_history_bytes, own_version};
-use kinds::{COUNTS, Horizon, ReadAnswer, State, WIDE_HISTORY_VERSION};
+use estimator::from_history_bytes;
+use kinds::{COUNTS, Horizon, ReadError, State, WIDE_HISTORY_VERSION};
 use lines::{put_accepted, put_refused, put_version};
 use premise::Chain;
 use reader::number;
@@ -26,8 +26,7 @@ pub const PAGE: usize = 2048;
 fn tell(
     out: &mut [u8],
     chain: Chain,
-    answer: ReadAnswer,
-    state: State,
+    reading: Result<State, ReadError>,
     confirmed: &[f64],
     resolved: &[f64],
     on: Horizon,
@@ -35,13 +34,13 @@ fn tell(
     ensures { page out.new result
         ≡ writes (told chain on (read_answer answer) state (answered state confirmed.now resolved.now on)) (page out.old 0) }
 {
-    match answer {
-        ReadAnswer::Done => put_accepted(out, chain, state, confirmed, resolved, on),
-        ReadAnswer::Damaged => put_refused(out, b"Damaged"),
-        ReadAnswer::BadMagic => put_refused(out, b"BadMagic"),
-        ReadAnswer::UnknownVersion(v) => put_version(out, 0, v),
-        ReadAnswer::Corrupt => put_refused(out, b"Corrupt"),
-        ReadAnswer::NoRoom => put_refused(out, b"NoRoom"),
+    match reading {
+        Ok(state) => put_accepted(out, chain, state, confirmed, resolved, on),
+        Err(ReadError::Damaged) => put_refused(out, b"Damaged"),
+        Err(ReadError::BadMagic) => put_refused(out, b"BadMagic"),
+        Err(ReadError::UnknownVersion(v)) => put_version(out, 0, v),
+        Err(ReadError::Corrupt) => put_refused(out, b"Corrupt"),
+        Err(ReadError::NoRoom) => put_refused(out, b"NoRoom"),
     }
 }
 
@@ -79,17 +78,6 @@ pub fn report(
     }
     let mut confirmed = [0.0f64; COUNTS];
     let mut resolved = [0.0f64; COUNTS];
-    let version = own_version(on);
-    let r = from_history_bytes(
-        file,
-        &mut confirmed,
-        &mut resolved,
-        pending,
-        recent,
-        version,
-        on,
-    );
-    let answer = r.answer;
-    let state = r.state;
-    tell(out, chain, answer, state, &confirmed, &resolved, on)
+    let reading = from_history_bytes(file, &mut confirmed, &mut resolved, pending, recent, on);
+    tell(out, chain, reading, &confirmed, &resolved, on)
 }

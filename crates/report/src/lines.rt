@@ -11,8 +11,8 @@ ghost use Rattle.report.specs.Shown.{line, last_text, state_lines, target_line, 
 ghost use Rattle.report.specs.Rates.{carried_rate, answered};
 
 use boards::width_of;
-use estimates::estimate;
-use kinds::{Blocks, Estimated, Horizon, Last, MAX_CONF_TARGET, State};
+use estimator::estimate;
+use kinds::{Blocks, Damaged, FeeRate, Height, Horizon, MAX_CONF_TARGET, State};
 use premise::{Chain, put_premise};
 use print::{put, put_byte, put_decimal};
 
@@ -45,10 +45,10 @@ fn put_number(out: &mut [u8], at: usize, word: &[u8], n: u64) -> usize
 
 // The last height or `-`.
 #[tactic(auto, unfolding(crate::specs::Shown::last_text))]
-fn put_last(out: &mut [u8], at: usize, last: Last) -> usize
+fn put_last(out: &mut [u8], at: usize, last: Option<Height>) -> usize
     ensures { page out.new result ≡ writes (line height (last_text last)) (page out.old at) }
 {
-    let Last::At(h) = last else {
+    let Some(h) = last else {
         return put_line(out, at, b"height ", b"-");
     };
     let n = h.0;
@@ -79,10 +79,10 @@ pub(crate) fn put_version(out: &mut [u8], at: usize, v: u32) -> usize
 
 // A rate or `-`.
 #[tactic(auto, unfolding(crate::specs::Rates::carried_rate))]
-fn put_rate(out: &mut [u8], at: usize, e: Estimated) -> usize
+fn put_rate(out: &mut [u8], at: usize, e: Result<Option<FeeRate>, Damaged>) -> usize
     ensures { page out.new result ≡ write (carried_rate (estimate_answer e).carries) (page out.old at) }
 {
-    let Estimated::Rate(rate) = e else {
+    let Ok(Some(rate)) = e else {
         return put_byte(out, at, b'-');
     };
     put_decimal(out, at, rate.0)

@@ -22,7 +22,7 @@ pub returns : goal.returns
 unfolding izr_estimate
 returns c =
     let same = ap (λ (s : State). estimate_call (board_of c.args.on) s c.args.confirmed.now c.args.resolved.now (record { 0 = c.args.target })) c.state_in.ensures in
-    fits _ _ _ _ _ (fit (goal.at.returns c).Else-not-state_and_word) _ (estimates _ _ _ _ (c.estimate-estimated.ensures ∙ same) _ _ c.tell_estimated.ensures.0 c.tell_estimated.ensures.1)
+    fits _ _ _ _ _ (fit (goal.at.returns c).Else-not-state_and_word) _ (estimates _ _ _ _ (c.estimate-estimated.ensures ∙ same) _ _ c.tell_estimated.ensures.number c.tell_estimated.ensures.carried_after)
 
 pub returns-then-not-state_and_word : goal.returns-then-not-state_and_word
 unfolding izr_estimate

@@ -4,14 +4,15 @@ use mathlib.Core.Bool.{true, ◌&&◌}
 use borrow.Author.Tests.{leb-true}
 use lib.Dec.{leb}
 use lib.ListN.{length}
-use Rattle.kinds.specs.declared.FileVersion.{FileVersion}
-use Rattle.rules.specs.Board.{board_of}
-use Rattle.rules.specs.Memory.{lent}
+use Rattle.kinds.specs.Answers.{read_refusal, state_or}
+use Rattle.kinds.specs.Refusals.{read_refuses}
+use Rattle.rules.specs.Estimator.{fresh}
+use Rattle.rules.specs.Memory.{state_of}
+use Rattle.boundary.specs.Words.{put_if_done}
+use Prim.Native.Nat.{ℕ}
 use Rattle.rules.proofs.Records.{and_left, and_right}
-use Rattle.format.specs.File.{version_told}
-use Rattle.format.specs.Calls.{read_call}
 use Rattle.boundary.specs.Calls.{izr_from_history_bytes}
-use Rattle.boundary.proofs.Calls.{unfit, fits, begins}
+use Rattle.boundary.proofs.Calls.{unfit, fits, begins, put_begun}
 use Rattle.exports.proofs.from_history_bytes.Goals as goal
 use Rattle.exports.proofs.from_history_bytes.Goals.{Else-not-room_and_word}
 
@@ -22,8 +23,8 @@ fit c = sym c.room_and_word.ensures ∙ c.if-not-room_and_word.false
 pub returns : goal.returns
 unfolding izr_from_history_bytes
 returns c =
-    let same = ap (λ (own : FileVersion). read_call (version_told own) (board_of c.args.on) (lent c.args.confirmed.now c.args.resolved.now c.args.pending.now c.args.recent.now) c.args.bytes.now) c.own_version.ensures in
-    fits _ _ _ _ _ (fit (goal.at.returns c).Else-not-room_and_word) _ (begins c.args.state.now _ _ _ _ (c.from_history_bytes-reading.ensures ∙ same) c.args.carried.now _ _ _ c.tell_reading.ensures.0 c.tell_reading.ensures.1.0 c.tell_reading.ensures.1.1)
+    let put = c.tell_reading.ensures.words_after ∙ put_begun read_refusal read_refuses (state_of fresh) _ _ ∙ ap (λ (n : ℕ). put_if_done n (state_or (state_of fresh) c.from_history_bytes-reading.result) c.args.state.now) (sym c.tell_reading.ensures.number) in
+    fits _ _ _ _ _ (fit (goal.at.returns c).Else-not-room_and_word) _ (begins c.args.state.now _ _ _ _ c.from_history_bytes-reading.ensures c.args.carried.now _ _ _ c.tell_reading.ensures.number put c.tell_reading.ensures.carried_after)
 
 pub returns-then-not-room_and_word : goal.returns-then-not-room_and_word
 unfolding izr_from_history_bytes

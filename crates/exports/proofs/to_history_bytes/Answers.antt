@@ -1,15 +1,14 @@
 -- `exports::to_history_bytes` meets its contract. Assumes nothing.
-use mathlib.Core.Path.{◌≡◌, sym, ap₂, ◌∙◌}
+use mathlib.Core.Path.{◌≡◌, sym, ap, ◌∙◌}
 use mathlib.Core.Bool.{true, ◌&&◌}
 use borrow.Author.Tests.{leb-true}
 use lib.Dec.{leb}
 use lib.ListN.{length}
-use Rattle.kinds.specs.declared.FileVersion.{FileVersion}
 use Rattle.kinds.specs.declared.State.{State}
 use Rattle.rules.specs.Board.{board_of}
 use Rattle.rules.specs.Memory.{lent}
 use Rattle.rules.proofs.Records.{and_left, and_right}
-use Rattle.format.specs.File.{version_told}
+use Rattle.format.specs.File.{version_of}
 use Rattle.format.specs.Calls.{write_call}
 use Rattle.boundary.specs.Words.{holds_state}
 use Rattle.boundary.specs.Calls.{izr_to_history_bytes}
@@ -25,8 +24,8 @@ pub returns : goal.returns
 unfolding izr_to_history_bytes
 returns c =
     let l = lent c.args.confirmed.now c.args.resolved.now c.args.pending.now c.args.recent.now in
-    let same = ap₂ (λ (s : State) (own : FileVersion). write_call (version_told own) (board_of c.args.on) s l c.args.out.now) c.state_in.ensures c.own_version.ensures in
-    fits _ _ _ _ _ (fit (goal.at.returns c).Else-not-state_and_word) _ (writes _ _ _ _ _ _ _ (c.to_history_bytes-written.ensures ∙ same) _ _ c.tell_written.ensures.0 c.tell_written.ensures.1)
+    let same = ap (λ (s : State). write_call (version_of c.args.on) (board_of c.args.on) s l c.args.out.now) c.state_in.ensures in
+    fits _ _ _ _ _ (fit (goal.at.returns c).Else-not-state_and_word) _ (writes _ _ _ _ _ _ _ (c.to_history_bytes-written.ensures ∙ same) _ _ c.tell_written.ensures.number c.tell_written.ensures.carried_after)
 
 pub returns-then-not-state_and_word : goal.returns-then-not-state_and_word
 unfolding izr_to_history_bytes

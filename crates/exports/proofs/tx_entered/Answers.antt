@@ -13,7 +13,7 @@ use Rattle.rules.proofs.Records.{and_left, and_right}
 use Rattle.boundary.specs.Words.{holds_state}
 use Rattle.boundary.specs.Calls.{izr_tx_entered}
 use Rattle.boundary.proofs.Words.{four}
-use Rattle.boundary.proofs.Calls.{unfit, fits, tells}
+use Rattle.boundary.proofs.Calls.{unfit, fits, tells, put_told}
 use Rattle.exports.proofs.tx_entered.Goals as goal
 use Rattle.exports.proofs.tx_entered.Goals.{Else-not-state_and_id}
 
@@ -25,7 +25,7 @@ pub returns : goal.returns
 unfolding izr_tx_entered
 returns c =
     let same = ap₂ (λ (s : State) (i : List ℕ). enter_call (board_of c.args.on) s c.args.pending.now i (record { 0 = c.args.rate }) (record { 0 = c.args.height })) c.state_in.ensures c.id_in-given.ensures in
-    fits _ _ _ _ _ (fit (goal.at.returns c).Else-not-state_and_id) _ (tells c.args.state.now _ _ _ _ (c.tx_entered-entered.ensures ∙ same) _ _ c.tell_entered.ensures.0 c.tell_entered.ensures.1)
+    fits _ _ _ _ _ (fit (goal.at.returns c).Else-not-state_and_id) _ (tells c.args.state.now _ _ _ _ (c.tx_entered-entered.ensures ∙ same) _ _ c.tell.ensures.number (c.tell.ensures.words_after ∙ put_told _ _ (and_left _ _ (fit (goal.at.returns c).Else-not-state_and_id)) _ c.state_in.ensures))
 
 pub returns-then-not-state_and_id : goal.returns-then-not-state_and_id
 unfolding izr_tx_entered
@@ -39,6 +39,6 @@ pub state_in-requires : goal.state_in-requires
 unfolding izr_tx_entered
 state_in-requires c = and_left _ _ (fit (goal.at.state_in-requires c).Else-not-state_and_id)
 
-pub tell_entered-requires : goal.tell_entered-requires
+pub tell-requires : goal.tell-requires
 unfolding izr_tx_entered
-tell_entered-requires c = four _ (and_left _ _ (fit (goal.at.tell_entered-requires c).Else-not-state_and_id))
+tell-requires c = four _ (and_left _ _ (fit (goal.at.tell-requires c).Else-not-state_and_id))

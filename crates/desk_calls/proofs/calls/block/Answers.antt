@@ -12,4 +12,4 @@ pub returns : goal.returns
 unfolding block_does
 returns c =
     let same = ap (λ (x : Height). block_call (board_of c.args.on) c.args.state (lent c.args.confirmed.now c.args.resolved.now c.args.pending.now c.args.recent.now) c.args.ids.now x) c.height-height.ensures in
-    tells _ _ _ _ _ _ (c.block_connected-r.ensures ∙ same) c.number.ensures c.numbered.ensures
+    tells _ _ _ _ _ (c.block_connected.ensures ∙ same) c.numbered.ensures

@@ -11,5 +11,5 @@ use Rattle.desk_calls.proofs.calls.enter.Goals as goal
 pub returns : goal.returns
 unfolding enter_does
 returns c =
-    let same = ap₂ (λ (x : Id) (y : Height). enter_call (board_of c.args.on) c.args.state c.args.pending.now x (record { 0 = c.args.line.b }) y) c.id_in-id.ensures c.height.ensures in
-    tells _ _ _ _ _ _ (c.tx_entered-r.ensures ∙ same) c.number.ensures c.numbered.ensures
+    let same = ap₂ (λ (x : Id) (y : Height). enter_call (board_of c.args.on) c.args.state c.args.pending.now x (record { 0 = c.args.line.b }) y) c.id_in-id.ensures c.height-height.ensures in
+    tells _ _ _ _ _ (c.tx_entered.ensures ∙ same) c.numbered.ensures

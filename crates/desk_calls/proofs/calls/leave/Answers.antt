@@ -11,4 +11,4 @@ pub returns : goal.returns
 unfolding leave_does
 returns c =
     let same = ap (λ (x : Id). leave_call (board_of c.args.on) c.args.state c.args.pending.now x) c.id_in-id.ensures in
-    tells _ _ _ _ _ _ (c.tx_left-r.ensures ∙ same) c.number.ensures c.numbered.ensures
+    tells _ _ _ _ _ (c.tx_left.ensures ∙ same) c.numbered.ensures
