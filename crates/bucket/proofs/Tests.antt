@@ -1,7 +1,7 @@
 -- Rows that hold only zeros: how their counts are tested. Assumes nothing.
-use mathlib.Core.Path.{◌≡◌, sym, ap, ◌∙◌}
+use mathlib.Core.Path.{◌≡◌, ap, ◌∙◌}
 use mathlib.Core.Bool.{not}
-use Prim.Native.Nat.{ℕ, ◌+◌, ◌*◌, ◌≤◌, ◌<◌}
+use Prim.Native.Nat.{ℕ, ◌+◌, ◌*◌, ◌≤◌}
 use native.Mathlib.Omega.{arith}
 use lib.ListN.{length, get_or}
 use lib.Ieee.{Float, nan, binary64, of_bits, eq, ne}
@@ -9,21 +9,16 @@ use Rattle.rules.specs.Counts.{Counts, columns, nought, cell, is_zero}
 use Rattle.floats.proofs.Bits.{zero_is}
 use Rattle.floats.proofs.Zeros.{zero_tested}
 use Rattle.lists.specs.Part.{part}
-use Rattle.lists.proofs.Part.{get_or_part}
 use Rattle.lists.proofs.Lists.{get_or_within}
 
 -- the source's `x == 0.0`
-is_tested : (x : Float) → eq x (of_bits binary64 0) ≡ is_zero x
+pub is_tested : (x : Float) → eq x (of_bits binary64 0) ≡ is_zero x
 is_tested x = ap (eq x) zero_is ∙ zero_tested x
 
 module _ (b : ℕ) (xs : Counts) where
   -- the row of bucket b
   abbrev row : Counts
   row = part 25 b xs
-
-  -- its `counts[at + i] == 0.0` is the test of count i of the row
-  pub tested : (i : ℕ) → i < 25 → eq (get_or xs (b * 25 + i) nan) (of_bits binary64 0) ≡ is_zero (get_or row i nan)
-  tested i k = is_tested (get_or xs (b * 25 + i) nan) ∙ ap is_zero (sym (get_or_part 25 b xs i nan k))
 
   module _ (h : b * 25 + 25 ≤ length xs) where
     -- its `counts[last] != 0.0`

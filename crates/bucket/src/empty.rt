@@ -9,19 +9,15 @@ use kinds::MAX_CONF_TARGET;
 // The place of a row's last count.
 const LAST: usize = MAX_CONF_TARGET - 1;
 
-// Whether the row of bucket b, in the slice of one kind, holds only zeros, of either sign. The loop has no way out, so that it goes several counts at a time.
+// Whether the row of bucket b, in the slice of one kind, holds only zeros, of either sign. The fold has no way out, so that it goes several counts at a time.
 pub fn row_is_empty(counts: &[f64], b: usize) -> bool
     requires { (b < buckets) × (places_of_counts ≤ length counts.now) }
     ensures { result ≡ empty_row (part columns b counts.now) }
 {
     let at = b * MAX_CONF_TARGET;
-    let mut empty = counts[at] == 0.0;
-    let mut i: usize = 1;
-    while i < MAX_CONF_TARGET {
-        empty = empty & (counts[at + i] == 0.0);
-        i += 1;
-    }
-    empty
+    counts[at..at + MAX_CONF_TARGET]
+        .iter()
+        .fold(true, |empty, x| empty & (*x == 0.0))
 }
 
 // Whether in both rows of bucket b the last count is not zero. A row that holds anything mostly holds something there, and then none of its other counts is

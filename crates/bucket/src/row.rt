@@ -14,11 +14,7 @@ fn row_out(counts: &[f64], b: usize) -> [f64; MAX_CONF_TARGET]
 {
     let at = b * MAX_CONF_TARGET;
     let mut row = [0.0f64; MAX_CONF_TARGET];
-    let mut i: usize = 0;
-    while i < MAX_CONF_TARGET {
-        row[i] = counts[at + i];
-        i += 1;
-    }
+    row.copy_from_slice(&counts[at..at + MAX_CONF_TARGET]);
     row
 }
 
@@ -28,11 +24,7 @@ pub fn row_in(counts: &mut [f64], b: usize, row: [f64; MAX_CONF_TARGET])
     ensures { counts.new ≡ part_put columns b row counts.old }
 {
     let at = b * MAX_CONF_TARGET;
-    let mut i: usize = 0;
-    while i < MAX_CONF_TARGET {
-        counts[at + i] = row[i];
-        i += 1;
-    }
+    counts[at..at + MAX_CONF_TARGET].copy_from_slice(&row);
 }
 
 // Both kinds of counts of bucket b.
