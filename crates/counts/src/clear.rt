@@ -9,9 +9,5 @@ pub fn clear_counts(counts: &mut [f64])
     requires { places_of_counts ≤ length counts.old }
     ensures { counts.new ≡ no_counts ++ drop places_of_counts counts.old }
 {
-    let mut i: usize = 0;
-    while i < COUNTS {
-        counts[i] = 0.0;
-        i += 1;
-    }
+    counts[..COUNTS].fill(0.0);
 }

@@ -23,14 +23,11 @@ fn put_back(counts: &mut [f64], b: usize, row: [f64; MAX_CONF_TARGET], empty: bo
 }
 
 // One row times the factor.
-fn decay_row(row: &mut [f64], factor: f64)
-    requires { length row.old ≡ columns }
+fn decay_row(row: &mut [f64; MAX_CONF_TARGET], factor: f64)
     ensures { row.new ≡ apply_decay factor row.old }
 {
-    let mut i: usize = 0;
-    while i < MAX_CONF_TARGET {
-        row[i] = row[i] * factor;
-        i += 1;
+    for count in row {
+        *count *= factor;
     }
 }
 
@@ -39,10 +36,8 @@ fn row_decayed(row: [f64; MAX_CONF_TARGET], factor: f64, times: u32) -> [f64; MA
     ensures { result ≡ map (often times factor) row }
 {
     let mut y = row;
-    let mut n: u32 = 0;
-    while n < times {
+    for _ in 0..times {
         decay_row(&mut y, factor);
-        n += 1;
     }
     y
 }
@@ -56,8 +51,8 @@ fn decayed(x: Bucket, factor: f64, times: u32) -> Bucket
     let confirmed = row_decayed(c, factor, times);
     let resolved = row_decayed(r, factor, times);
     Bucket {
-        confirmed: confirmed,
-        resolved: resolved,
+        confirmed,
+        resolved,
     }
 }
 
@@ -102,10 +97,7 @@ pub fn apply_decay(confirmed: &mut [f64], resolved: &mut [f64], factor: f64, hei
     ensures confirmed_after { confirmed.new ≡ map (often heights.0 factor) (take places_of_counts confirmed.old) ++ drop places_of_counts confirmed.old }
     ensures resolved_after { resolved.new ≡ map (often heights.0 factor) (take places_of_counts resolved.old) ++ drop places_of_counts resolved.old }
 {
-    let times = heights.0;
-    let mut b: usize = 0;
-    while b < BUCKET_COUNT {
-        decay_bucket(confirmed, resolved, b, factor, times);
-        b += 1;
+    for b in 0..BUCKET_COUNT {
+        decay_bucket(confirmed, resolved, b, factor, heights.0);
     }
 }

@@ -1,25 +1,14 @@
-use mathlib.Core.Path.{◌≡◌, refl, ◌∙◌}
-use native.Mathlib.Omega.{arith}
-use lib.Ieee.{nan, binary64, of_bits}
-use Rattle.lists.proofs.Upto.{start, step, stop}
-use Rattle.rules.specs.Counts.{nought, places_of_counts}
-use Rattle.counts.proofs.Clearing.{filled}
+use mathlib.Core.Path.{◌≡◌, ap, ◌∙◌}
+use mathlib.Core.List.{List, ◌++◌}
+use lib.ListN.{length, take, drop}
+use lib.Seq.{length-take-le}
+use lib.Ieee.{Float}
+use Rattle.rules.specs.Counts.{no_counts, places_of_counts}
+use Rattle.floats.proofs.Bits.{zero_is}
 use Rattle.counts.proofs.clear.clear_counts.Goals as goal
-
--- the source's constant
-nought_is : of_bits binary64 0 ≡ nought
-unfolding of_bits
-nought_is = refl
-
-pub loop-i-init : goal.loop-i-init
-loop-i-init c = start (omega arith)
-
-pub loop-i-preserved : goal.loop-i-preserved
-loop-i-preserved c = step nan c.loop-i.invariant (omega arith) nought_is
-
-pub shape_of-counts : goal.shape_of-counts
-shape_of-counts c = c.loop-i.invariant.long
 
 pub returns : goal.returns
 returns c =
-    stop c.loop-i.invariant (omega arith) ∙ filled nought places_of_counts c.args.counts.now c.loop-i.invariant.fits
+    let n : length (take places_of_counts c.args.counts.now) ≡ places_of_counts = length-take-le places_of_counts c.args.counts.now c.requires in
+    let e : c.fill.new.self ≡ no_counts = c.fill.ensures.after (λ y h. h) ∙ rw (n, zero_is) in
+    ap (λ (l : List Float). l ++ drop places_of_counts c.args.counts.now) e

@@ -20,6 +20,6 @@ gain_columns-requires-2 c =
 
 pub returns : goal.returns
 returns c = (
-  c.gain_columns.ensures ∙ ap (λ (r : ℕ). gain 0 (between r 25) c.args.x.confirmed) c.before_column.ensures ∙ gain_from 0 c.args.first c.args.x.confirmed,
+  c.gain_columns.ensures ∙ ap (λ (r : ℕ). gain 0 (between r 25) c.args.x.confirmed) c.saturating_sub.ensures ∙ gain_from 0 c.args.first c.args.x.confirmed,
   c.gain_columns-2.ensures ∙ gain_above 0 c.args.through c.args.x.resolved,
 )
