@@ -7,7 +7,7 @@ ghost use Rattle.rules.specs.Board.{board_of, pending_most};
 ghost use Rattle.rules.specs.Estimator.{without};
 ghost use Rattle.rules.specs.Memory.{pending_records, lay_pending};
 
-use ids::{Found, find};
+use ids::find;
 use kinds::Horizon;
 use table::remove;
 
@@ -20,10 +20,10 @@ pub fn forget(pending: &mut [u8], used: usize, id: &[u8], on: Horizon) -> usize
 {
     let size = boards::record_size(on);
     match find(pending, size, used, id) {
-        Found::At(i) => {
+        Ok(i) => {
             remove(pending, size, used, i);
             used - 1
         }
-        Found::Gap(_) => used,
+        Err(_) => used,
     }
 }

@@ -46,7 +46,7 @@ use Rattle.confirms.proofs.Tables.{compacted, as_many, merged_told}
 -- a list of less than one id does nothing
 pub nothing_listed : (k : Board) → Lawful k → (B : ℕ) (s : State) (l : Lent) (xs : List ℕ) → Ready k s l → length xs < 32 → outcome done s l ≡ accepted k (confirm_all k B (ids_of xs) (view k s l)) l
 unfolding confirm_all
-nothing_listed k law B s l xs ready h = step_none k law s l ready ∙ ap (λ (ids : List Id). accepted k (confirm_all k B ids (view k s l)) l) (sym (ids_none xs 0 (omega arith)))
+nothing_listed k law B s l xs ready h = step_none k law s l ready ∙ ap (λ (ids : List Id). accepted k (confirm_all k B ids (view k s l)) l) (sym (ids_none xs (omega arith)))
 
 -- the same over the board of a horizon, as the check meets it in the code
 pub none_listed : (on : Horizon) (B : ℕ) (s : State) (l : Lent) (xs : List ℕ) → Ready (board_of on) s l → length xs < 32

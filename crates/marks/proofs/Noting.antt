@@ -4,7 +4,7 @@ use Rattle.std.specs.Prelude.{Ok, Err}
 use mathlib.Core.Path.{◌≡◌, refl, sym, ap, ◌∙◌, fun_ext}
 use mathlib.Core.Bool.{Bool, true, false, ◌||◌, or-false, or_assoc}
 use mathlib.Core.List.{List, [], ◌++◌, map}
-use Prim.Native.Nat.{ℕ, ◌+◌, ◌-◌, ◌≤◌, ◌<◌}
+use Prim.Native.Nat.{ℕ, ◌<◌}
 use native.Mathlib.Omega.{arith}
 use lib.ListN.{length, get_or, take, drop, replicate, length-map, take-append-drop, get_or-map}
 use lib.Seq.{set-append_left}
@@ -19,7 +19,7 @@ use Rattle.ids.specs.Search.{Found}
 use Rattle.ids.proofs.Search.{at_told}
 use Rattle.table.proofs.View.{gap_any}
 use Rattle.batch.specs.Needed.{listed}
-use Rattle.batch.proofs.Listing.{next_id, ids_more, ids_none}
+use Rattle.batch.proofs.Listing.{ids_more, ids_none}
 use Rattle.marks.specs.Marks.{beside, noted}
 use Rattle.marks.proofs.Beside.{beside_none, beside_miss, beside_hit}
 
@@ -49,45 +49,43 @@ noted_beside mark i rs rest up = go (find_in i (map id_of rs)) refl
 
 -- ---- all of them
 
-pub record Marking (size used : ℕ) (table ids marks₀ : List ℕ) (at : ℕ) (marks : List ℕ) : Type 0 where
+-- the marks so far, and the bytes of the ids that are left
+pub record Marking (size used : ℕ) (table ids marks₀ left marks : List ℕ) : Type 0 where
   pub mark : Id → Bool
   pub is : marks ≡ beside id_of mark (records size used table) ++ drop used marks₀
-  pub within : at ≤ length ids
-  pub whole : (j : Id) → (mark j || listed (ids_of (drop at ids)) j) ≡ listed (ids_of ids) j
+  pub whole : (j : Id) → (mark j || listed (ids_of left) j) ≡ listed (ids_of ids) j
   pub long : length marks ≡ length marks₀
 
 module _ (size used : ℕ) (table ids marks₀ : List ℕ) where
   abbrev rs : List (List ℕ)
   rs = records size used table
 
-  pub marking_none : take used marks₀ ≡ replicate used 0 → Marking size used table ids marks₀ 0 marks₀
+  pub marking_none : take used marks₀ ≡ replicate used 0 → Marking size used table ids marks₀ ids marks₀
   marking_none z =
       record {
         mark = λ j. false;
         is = sym (take-append-drop used marks₀) ∙ ap (λ (l : List ℕ). l ++ drop used marks₀) (z ∙ sym (beside_none id_of rs ∙ ap (λ (n : ℕ). replicate n 0) (length_records size used table)));
-        within = omega arith;
         whole = λ j. refl;
         long = refl;
       }
 
-  module _ (at : ℕ) (marks : List ℕ) (g : Marking size used table ids marks₀ at marks) where
-    pub marking_more : rising (map id_of rs) ≡ true → 32 ≤ length ids - at → (next : List ℕ) → next ≡ noted (find_in (next_id at ids) (map id_of rs)) marks → length next ≡ length marks
-        → Marking size used table ids marks₀ (at + 32) next
+  module _ (marks : List ℕ) where
+    pub marking_more : (i left : List ℕ) → Marking size used table ids marks₀ (i ++ left) marks → rising (map id_of rs) ≡ true → length i ≡ 32 → (next : List ℕ) → next ≡ noted (find_in i (map id_of rs)) marks → length next ≡ length marks
+        → Marking size used table ids marks₀ left next
     unfolding listed any
-    marking_more up h next e l =
+    marking_more i left g up h next e l =
         record {
-          mark = λ j. g.mark j || same j (next_id at ids);
-          is = e ∙ ap (noted (find_in (next_id at ids) (map id_of rs))) g.is ∙ noted_beside g.mark (next_id at ids) rs (drop used marks₀) up;
-          within = omega (arith, g.within);
+          mark = λ j. g.mark j || same j i;
+          is = e ∙ ap (noted (find_in i (map id_of rs))) g.is ∙ noted_beside g.mark i rs (drop used marks₀) up;
           whole = λ j.
-              or_assoc (g.mark j) (same j (next_id at ids)) (listed (ids_of (drop (at + 32) ids)) j)
-              ∙ ap (λ (is : List Id). g.mark j || listed is j) (sym (ids_more ids at h))
+              or_assoc (g.mark j) (same j i) (listed (ids_of left) j)
+              ∙ ap (λ (is : List Id). g.mark j || listed is j) (sym (ids_more i left h))
               ∙ g.whole j;
           long = l ∙ g.long;
         }
 
-    pub marking_all : length ids - at < 32 → marks ≡ beside id_of (listed (ids_of ids)) rs ++ drop used marks₀
+    pub marking_all : (left : List ℕ) → Marking size used table ids marks₀ left marks → length left < 32 → marks ≡ beside id_of (listed (ids_of ids)) rs ++ drop used marks₀
     unfolding listed any
-    marking_all h =
-        let all : g.mark ≡ listed (ids_of ids) = fun_ext (λ j. sym (or-false (g.mark j)) ∙ ap (λ (is : List Id). g.mark j || listed is j) (sym (ids_none ids at h)) ∙ g.whole j) in
+    marking_all left g h =
+        let all : g.mark ≡ listed (ids_of ids) = fun_ext (λ j. sym (or-false (g.mark j)) ∙ ap (λ (is : List Id). g.mark j || listed is j) (sym (ids_none left h)) ∙ g.whole j) in
         g.is ∙ ap (λ (mark : Id → Bool). beside id_of mark rs ++ drop used marks₀) all

@@ -11,8 +11,8 @@ ghost use Rattle.batch.specs.Needed.{listed};
 ghost use Rattle.batch.specs.Picked.{picked};
 ghost use Rattle.marks.specs.Marks.{beside, noted};
 
-use ids::{Found, find};
-use kinds::MAX_PENDING_ENTRIES;
+use ids::find;
+use kinds::{ID_SIZE, MAX_PENDING_ENTRIES};
 
 // A mark for each pending record that there may be: none is marked.
 pub fn no_marks() -> [u8; MAX_PENDING_ENTRIES]
@@ -29,11 +29,8 @@ fn mark(table: &[u8], size: usize, used: usize, id: &[u8], marks: &mut [u8])
     requires used_in_bounds { used ≤ length marks.old }
     ensures { marks.new ≡ noted (find_in id.now (map id_of (records size used table.now))) marks.old }
 {
-    match find(table, size, used, id) {
-        Found::At(i) => {
-            marks[i] = 1;
-        }
-        Found::Gap(_) => {}
+    if let Ok(i) = find(table, size, used, id) {
+        marks[i] = 1;
     }
 }
 
@@ -44,11 +41,8 @@ pub fn mark_listed(table: &[u8], size: usize, used: usize, ids: &[u8], marks: &m
     requires used_in_bounds { (used ≤ length marks.old) × (take used marks.old ≡ replicate used 0) }
     ensures { marks.new ≡ beside id_of (listed (ids_of ids.now)) (records size used table.now) ++ drop used marks.old }
 {
-    let mut at: usize = 0;
-    while 32 <= ids.len() - at {
-        let end = at + 32;
-        mark(table, size, used, &ids[at..end], marks);
-        at = end;
+    for id in ids.chunks_exact(ID_SIZE) {
+        mark(table, size, used, id, marks);
     }
 }
 
@@ -59,10 +53,8 @@ pub fn drop_marked(table: &mut [u8], size: usize, used: usize, marks: &[u8]) -> 
     ensures table_after { table.new ≡ laid size used (picked 0 marks.now (records size used table.old)) table.old }
 {
     let mut k = 0;
-    let mut i = 0;
-    while i < used {
+    for i in 0..used {
         k = table::keep_record(table, size, k, i, marks[i] == 0);
-        i += 1;
     }
     mem::zero(table, k * size, used * size);
     k

@@ -10,8 +10,8 @@ use Rattle.rules.specs.Ids.{Id, below}
 use Rattle.rules.proofs.All.{All, none, more}
 use Rattle.rules.proofs.Ids.{Up, end, step, below_asym, all_above}
 use Rattle.ids.specs.Search.{cmp, is_less, decide, find_from}
-use Rattle.std.specs.Ordering.{Ordering}
-use Rattle.std.specs.Ordering.{Less, Equal, Greater}
+use Rattle.std.specs.declared.cmp.Ordering.{Ordering}
+use Rattle.std.specs.declared.cmp.Ordering.TheVariants.{Less, Equal, Greater}
 use Rattle.ids.specs.Search.{Found}
 use Rattle.ids.proofs.Ids.{below_cmp_is, cmp_equal, cmp_refl, cmp_above}
 use Rattle.ids.proofs.Search.{at_told, gap_told}

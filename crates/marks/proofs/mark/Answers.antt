@@ -16,6 +16,5 @@ pub returns-in-Ok : goal.returns-in-Ok
 returns-in-Ok c =
     noted_as c.args.marks.now (sym c.find.ensures ∙ c.in-Ok.is)
 
-pub returns-in-Err : goal.returns-in-Err
-returns-in-Err c =
-    noted_as c.args.marks.now (sym c.find.ensures ∙ c.in-Err.is)
+pub returns-in_default : goal.returns-in_default
+returns-in_default c = noted_as c.args.marks.now (sym c.find.ensures ∙ c.in_default.is)

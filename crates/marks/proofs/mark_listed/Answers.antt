@@ -1,23 +1,29 @@
+use mathlib.Core.Path.{◌∙◌}
+use mathlib.Core.List.{◌++◌}
 use native.Mathlib.Omega.{arith}
-use Rattle.batch.proofs.Listing.{next_length}
-use Rattle.marks.proofs.Noting.{marking_none, marking_more, marking_all}
+use Rattle.std.specs.Slice.Iter.{chunks_exact_rest}
+use Rattle.marks.proofs.Noting.{Marking, marking_none, marking_more, marking_all}
 use Rattle.marks.proofs.mark_listed.Goals as goal
 
-pub loop-at-init : goal.loop-at-init
-loop-at-init c = marking_none _ _ _ _ _ c.requires.used_in_bounds.1
+pub loop-id-init : goal.loop-id-init
+loop-id-init c =
+    rw (c.into_iter-id-iterator.ensures.into_iter_gives, c.chunks_exact-id-items.ensures.rest)
+    (c.chunks_exact-id-items.ensures.size, marking_none _ _ _ _ _ c.requires.used_in_bounds.1)
 
 pub mark-requires : goal.mark-requires
-mark-requires c = record { le_size = c.requires.le_size; table_value = c.requires.table_value; id_len = next_length c.args.ids.now c.loop-at.at c.loop-at-test.true; used_in_bounds = omega (arith, c.requires.used_in_bounds.0, c.loop-at.invariant.long) }
+mark-requires c =
+    record {
+      le_size = c.requires.le_size;
+      table_value = c.requires.table_value;
+      id_len = c.in-Some.ensures.steps.1.1 ∙ c.loop-id.invariant.0;
+      used_in_bounds = omega (arith, c.requires.used_in_bounds.0, c.loop-id.invariant.1.long);
+    }
 
-pub loop-at-preserved : goal.loop-at-preserved
-loop-at-preserved c =
-    marking_more _ _ _ _ _ c.loop-at.at _ c.loop-at.invariant c.requires.table_value c.loop-at-test.true _ c.mark.ensures c.mark.auto.marks
-
-pub shape_of-marks : goal.shape_of-marks
-shape_of-marks c = c.loop-at.invariant.long
+pub loop-id-preserved : goal.loop-id-preserved
+loop-id-preserved c =
+    let next = c.in-Some.ensures.steps in
+    let g : Marking c.args.size c.args.used c.args.table.now c.args.ids.now c.args.marks.now (c.in-Some.id.now ++ chunks_exact_rest c.next.new.self) c.loop-id.marks = rw next.1.0 at c.loop-id.invariant.1 in
+    (next.0 ∙ c.loop-id.invariant.0, marking_more _ _ _ _ _ _ _ _ g c.requires.table_value (next.1.1 ∙ c.loop-id.invariant.0) _ c.mark.ensures c.mark.auto.marks)
 
 pub returns : goal.returns
-returns c = marking_all _ _ _ _ _ c.loop-at.at _ c.loop-at.invariant (omega arith)
-
-pub overflow_sub-ids : goal.overflow_sub-ids
-overflow_sub-ids c = c.loop-at.invariant.within
+returns c = marking_all _ _ _ _ _ _ _ c.loop-id.invariant.1 (omega (arith, c.in-None.ensures.steps.1.0, c.loop-id.invariant.0))

@@ -1,11 +1,8 @@
 -- `marks::mark_listed` meets its contract. Assumes nothing.
-use Prim.Native.Nat.{◌-◌}
-use lib.ListN.{length}
+use mathlib.Core.Path.{◌≡◌}
+use Rattle.std.specs.Slice.Iter.{chunks_exact_rest, chunks_exact_size}
 use Rattle.marks.proofs.Noting.{Marking}
 use Rattle.marks.proofs.mark_listed.Given as goal
 
-abbrev pub invariant-loop-at : goal.invariant-loop-at
-invariant-loop-at l = Marking l.size l.used l.table l.ids l.initial.marks l.at l.marks
-
-abbrev pub decreases-loop-at : goal.decreases-loop-at
-decreases-loop-at l = length l.ids - l.at
+abbrev pub invariant-loop-id : goal.invariant-loop-id
+invariant-loop-id l = (chunks_exact_size l.id-iterator ≡ 32) × Marking l.size l.used l.table l.ids l.initial.marks (chunks_exact_rest l.id-iterator) l.marks
