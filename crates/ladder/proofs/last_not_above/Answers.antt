@@ -1,15 +1,13 @@
-use native.Mathlib.Omega.{arith}
-use Rattle.ladder.proofs.Closing.{start, above, below, found}
+use mathlib.Core.Path.{◌∙◌}
+use lib.Dec.{leb}
+use Rattle.std.proofs.Common.{rules, tests}
+use Rattle.std.proofs.lemmas.List.Sorted.{IsPartitionPoint-from_clause}
+use Rattle.ladder.specs.declared.TheConstants.{RATES}
+use Rattle.ladder.proofs.Closing.{parted, found}
 use Rattle.ladder.proofs.last_not_above.Goals as goal
 
-pub loop-lo-init : goal.loop-lo-init
-loop-lo-init c = start _
-
-pub loop-lo-preserved-then-as_sat_per_kvb-x : goal.loop-lo-preserved-then-as_sat_per_kvb-x
-loop-lo-preserved-then-as_sat_per_kvb-x c = above c.loop-lo.invariant (omega arith) (omega arith)
-
-pub loop-lo-preserved : goal.loop-lo-preserved
-loop-lo-preserved c = below c.loop-lo.invariant (omega arith) (omega arith) (omega arith)
-
 pub returns : goal.returns
-returns c = found c.loop-lo.invariant (omega arith)
+returns c =
+    let x = c.args.r.0 in
+    let p = IsPartitionPoint-from_clause (λ r. leb r x) RATES _ c.partition_point.ensures.partitioned (parted x) (λ a r f k. search (rules, tests)) in
+    c.saturating_sub.ensures ∙ found x _ c.partition_point.ensures.bound p
