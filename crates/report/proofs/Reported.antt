@@ -9,16 +9,16 @@ use lib.ListN.{length}
 use lib.Seq.{sets, length-sets, length-take-le}
 use lib.Pow.{are_bytes}
 use Rattle.io.specs.Counts.{IsPrefixLen}
-use Rattle.kinds.specs.declared.FileVersion.{FileVersion}
 use Rattle.kinds.specs.declared.Horizon.{Horizon}
 use Rattle.kinds.specs.declared.State.{State}
-use Rattle.kinds.specs.declared.ReadAnswer.{ReadAnswer}
+use Rattle.kinds.specs.declared.refusals.ReadError.{ReadError}
+use Rattle.std.specs.Prelude.{Result}
 use Rattle.kinds.specs.Answers.{read_answer}
 use Rattle.rules.specs.Records.{joined}
 use Rattle.rules.specs.Board.{board_of, pending_size, confirmed_size}
 use Rattle.rules.specs.Memory.{Lent}
 use Rattle.rules.specs.Calls.{Outcome, outcome}
-use Rattle.format.specs.File.{version_told, own_version}
+use Rattle.format.specs.File.{version_of}
 use Rattle.format.specs.Calls.{read_call}
 use Rattle.print.specs.Page.{Page, page, writes}
 use Rattle.print.specs.Text.{Text}
@@ -48,13 +48,13 @@ module _ (r : Reach) (chain : Chain) (on : Horizon) (file out : List ℕ) (long 
   put_too_long h = all_put (line refused too_long) (sym (rw (lt-ltb r.longest (length file) h))) (omega arith)
 
 -- what a reading into tables of these lengths tells, of the board's own version, is what the file's pieces are
-pub told_pieces : (chain : Chain) (on : Horizon) (file : List ℕ) → T (are_bytes file) → (longest : ℕ) → length file ≤ longest → (pending recent : List ℕ) (v : FileVersion) → v ≡ own_version on
-    → (a : ReadAnswer) (s : State) (l : Lent) → outcome (read_answer a) s l ≡ read_call (version_told v) (board_of on) (over pending recent) file
+pub told_pieces : (chain : Chain) (on : Horizon) (file : List ℕ) → T (are_bytes file) → (longest : ℕ) → length file ≤ longest → (pending recent : List ℕ)
+    → (a : Result State ReadError) (s : State) (l : Lent) → outcome (read_answer a) s l ≡ read_call (version_of on) (board_of on) (over pending recent) file
     → told chain on (read_answer a) s (answered s l.confirmed l.resolved on) ≡ pieces (reach (length pending / pending_size) (length recent / confirmed_size) longest) chain on file
 unfolding pieces
-told_pieces chain on file b longest h pending recent v own a s l e =
+told_pieces chain on file b longest h pending recent a s l e =
     ap (λ (o : Outcome Lent). told chain on o.answer o.state (answered o.state o.lent.confirmed o.lent.resolved on))
-    (e ∙ ap (λ (w : FileVersion). read_call (version_told w) (board_of on) (over pending recent) file) own)
+    e
     ∙ told_is chain on (over pending recent) file b
     ∙ told_in_room chain on pending recent longest file
     ∙ sym (rw (le-ltb longest (length file) h))

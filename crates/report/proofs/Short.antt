@@ -11,7 +11,8 @@ use Rattle.kinds.specs.declared.Horizon.{Horizon}
 use Rattle.kinds.specs.Last.{Last}
 use Rattle.std.specs.Prelude.{None, Some}
 use Rattle.kinds.specs.declared.State.{State}
-use Rattle.kinds.specs.declared.ReadAnswer.{ReadAnswer}
+use Rattle.kinds.specs.declared.refusals.ReadError.{ReadError}
+use Rattle.std.specs.Prelude.{Result, Ok, Err}
 use Rattle.kinds.specs.Answers.{read_answer}
 use Rattle.rules.specs.Records.{joined}
 use Rattle.rules.specs.Board.{board_of}
@@ -84,16 +85,16 @@ premise_short Untold l = omega arith
 premise_short (Tip n) None = omega arith
 premise_short (Tip n) (Some h) = beside_short h.0 n.0
 
-pub told_short : (chain : Chain) (on : Horizon) (a : ReadAnswer) (s : State) (f : ℕ → Text) → ((t : ℕ) → length (f t) ≤ 20) → length (joined (told chain on (read_answer a) s f)) ≤ 2048
+pub told_short : (chain : Chain) (on : Horizon) (a : Result State ReadError) (s : State) (f : ℕ → Text) → ((t : ℕ) → length (f t) ≤ 20) → length (joined (told chain on (read_answer a) s f)) ≤ 2048
 unfolding told refusal name carried joined
-told_short chain on ReadAnswer.Done s f h =
+told_short chain on (Ok t) s f h =
     let w = (board_of on).width in
     omega (arith, length_joined (premise chain s.last) (state_lines s ++ target_lines w f 1 25), premise_short chain s.last, length_joined (state_lines s) (target_lines w f 1 25), state_short s, lines_short w f h 1 25)
-told_short chain on ReadAnswer.Damaged s f h = omega arith
-told_short chain on ReadAnswer.BadMagic s f h = omega arith
-told_short chain on (ReadAnswer.UnknownVersion v) s f h = simp length-append (omega (arith, decimal_short v))
-told_short chain on ReadAnswer.Corrupt s f h = omega arith
-told_short chain on ReadAnswer.NoRoom s f h = omega arith
+told_short chain on (Err ReadError.Damaged) s f h = omega arith
+told_short chain on (Err ReadError.BadMagic) s f h = omega arith
+told_short chain on (Err (ReadError.UnknownVersion v)) s f h = simp length-append (omega (arith, decimal_short v))
+told_short chain on (Err ReadError.Corrupt) s f h = omega arith
+told_short chain on (Err ReadError.NoRoom) s f h = omega arith
 
 pub answered_short : (s : State) (confirmed resolved : List Float) (on : Horizon) (t : ℕ) → length (answered s confirmed resolved on t) ≤ 20
 unfolding answered

@@ -6,7 +6,9 @@ mod lines;
 
 ghost use Rattle.std.specs.Prelude.{◌≡◌, ◌/◌, length};
 ghost use Rattle.io.specs.Counts.{IsPrefixLen};
-ghost use Rattle.kinds.specs.Answers.{read_answer};
+ghost use Rattle.kinds.specs.Answers.{read_answer, state_or};
+ghost use Rattle.rules.specs.Estimator.{fresh};
+ghost use Rattle.rules.specs.Memory.{state_of};
 ghost use Rattle.rules.specs.Board.{pending_size, confirmed_size};
 ghost use Rattle.print.specs.Page.{page, writes};
 ghost use Rattle.report.specs.Shown.{told, named_by, reach, shown, printed};
@@ -32,7 +34,7 @@ fn tell(
     on: Horizon,
 ) -> usize
     ensures { page out.new result
-        ≡ writes (told chain on (read_answer answer) state (answered state confirmed.now resolved.now on)) (page out.old 0) }
+        ≡ writes (told chain on (read_answer reading) (state_or (state_of fresh) reading) (answered (state_or (state_of fresh) reading) confirmed.now resolved.now on)) (page out.old 0) }
 {
     match reading {
         Ok(state) => put_accepted(out, chain, state, confirmed, resolved, on),

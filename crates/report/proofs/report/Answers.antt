@@ -1,6 +1,9 @@
 -- What is put are the file's pieces, and there is room for them.
 use Rattle.std.proofs.Common.{◌≡◌, length, rules}
 use lib.Ieee.{of_bits}
+use Rattle.kinds.specs.Answers.{state_or}
+use Rattle.rules.specs.Estimator.{fresh}
+use Rattle.rules.specs.Memory.{state_of}
 use Rattle.rules.proofs.Bytes.{are_bytes_lem}
 use Rattle.report.proofs.Short.{answered_short, told_short}
 use Rattle.report.proofs.Reported.{all_put, put_too_long, told_pieces}
@@ -19,10 +22,11 @@ returns c =
     let a = c.args in
     let n : length a.out.now ≡ 2048 = search rules in
     let b = are_bytes_lem a.file.now (λ i. (c.type_inv.file i).fits) in
-    let r = c.from_history_bytes-r in
+    let r = c.from_history_bytes-reading in
+    let s = state_or (state_of fresh) r.result in
     let p =
     all_put _ a.chain a.on a.file.now a.out.now n _
-    (told_pieces a.chain a.on a.file.now b a.longest c.if-longest-file.false a.pending.now a.recent.now _ c.own_version-version.ensures r.result.answer r.result.state _ r.ensures)
-    (told_short a.chain a.on r.result.answer r.result.state _ (answered_short r.result.state _ _ a.on)) _ _ c.tell.ensures
+    (told_pieces a.chain a.on a.file.now b a.longest c.if-longest-file.false a.pending.now a.recent.now _ r.result s _ r.ensures)
+    (told_short a.chain a.on r.result s _ (answered_short s _ _ a.on)) _ _ c.tell.ensures
     in
     record { prefix_len = p.0; result_after = p.1 }
