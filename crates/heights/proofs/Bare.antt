@@ -1,13 +1,10 @@
 -- Where no record is left of either kind a height only decays the counts, so that many heights can be advanced at once. Assumes nothing.
 use mathlib.Core.Path.{◌≡◌, refl, sym, ap, ap₂, ◌∙◌}
-use mathlib.Core.Bool.{Bool, true, false, not, ◌&&◌, true≢false}
 use mathlib.Core.List.{[], ◌++◌, map}
 use Prim.Native.Nat.{ℕ, zero, suc, ◌+◌, ◌<◌}
 use native.Mathlib.Omega.{arith}
-use lib.Dec.{eqb, ltb}
 use lib.ListN.{take, drop}
 use lib.Ieee.{Float}
-use borrow.Author.Tests.{eqb-true, ltb-true, lt-ltb}
 use Rattle.kinds.specs.declared.Height.{Height}
 use Rattle.kinds.specs.Last.{Last}
 use Rattle.std.specs.Prelude.{Some}
@@ -20,26 +17,9 @@ use Rattle.rules.specs.Board.{Board}
 use Rattle.rules.specs.Estimator.{Estimator, expire_targets, advance_height, advance_heights}
 use Rattle.rules.specs.Memory.{Lent, lent, lay_pending, lay_confirmed, pending_records, confirmed_records, view, state_of, lay}
 use Rattle.rules.specs.Calls.{outcome, accepted}
-use Rattle.rules.proofs.Records.{and_left, and_right}
 use Rattle.decay.specs.Decay.{often}
 use Rattle.decay.proofs.Often.{once_more}
 use Rattle.ready.specs.Ready.{Ready}
-
--- ---- what `goes_on` tells
-
--- another height is left
-pub goes : (i n p q : ℕ) {r : Bool} → r ≡ (ltb i n && not (eqb p 0 && eqb q 0)) → r ≡ true → i < n
-goes i n p q {r} e t = ltb-true i n (and_left (ltb i n) (not (eqb p 0 && eqb q 0)) (sym e ∙ t))
-
-not_not : (t : Bool) → not t ≡ false → t ≡ true
-not_not true h = refl
-not_not false h = absurd (true≢false h)
-
--- where one is left but is not advanced by itself, there is no record
-pub no_record : (i n p q : ℕ) {r : Bool} → r ≡ (ltb i n && not (eqb p 0 && eqb q 0)) → r ≡ false → i < n → (p ≡ 0) × (q ≡ 0)
-no_record i n p q {r} e f h =
-    let t = not_not (eqb p 0 && eqb q 0) (sym (rw (lt-ltb i n h) at e) ∙ f) in
-    (eqb-true p 0 (and_left (eqb p 0) (eqb q 0) t), eqb-true q 0 (and_right (eqb p 0) (eqb q 0) t))
 
 -- ---- heights
 

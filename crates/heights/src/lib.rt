@@ -1,7 +1,7 @@
 // Heights advanced over the lent memory: one by one while there are records, and at once where only counts are left.
 #![tactic(auto)]
 
-ghost use Rattle.std.specs.Prelude.{◌≡◌, not, ◌&&◌, ◌+◌, ◌^◌, ◌<◌, eqb, ltb};
+ghost use Rattle.std.specs.Prelude.{◌≡◌, ◌+◌, ◌^◌, ◌<◌};
 ghost use Rattle.kinds.specs.Answers.{done};
 ghost use Rattle.rules.specs.Board.{board_of};
 ghost use Rattle.rules.specs.Estimator.{advance_height, advance_heights, skip_heights};
@@ -38,16 +38,6 @@ pub fn advance_height(
     }
 }
 
-// Whether there is a height left to be advanced by itself: after i of n heights, with a record of either kind.
-fn goes_on(state: State, i: u32, n: u32) -> bool
-    ensures { result ≡ (ltb i n && not (eqb state.pending 0 && eqb state.recent 0)) }
-{
-    let used = state.pending;
-    let kept = state.recent;
-    let none = (used == 0) & (kept == 0);
-    (i < n) & !none
-}
-
 // Advances the n heights after `low`: one by one while there are records, and then at once, since nothing but the counts is left to change.
 fn advance_heights(
     state: State,
@@ -67,23 +57,21 @@ fn advance_heights(
     let from = low.0;
     let count = n.0;
     let mut s = state;
-    let mut i: u32 = 0;
-    while goes_on(s, i, count) {
-        i += 1;
-        let next = from + i;
+    for i in 0..count {
+        if s.pending == 0 && s.recent == 0 {
+            let left = count - i;
+            let top = from + count;
+            decay::apply_decay(confirmed, resolved, boards::factor_of(on), Blocks(left));
+            return State {
+                last: Some(Height(top)),
+                pending: 0,
+                recent: 0,
+            };
+        }
+        let next = from + (i + 1);
         s = advance_height(s, confirmed, resolved, pending, recent, Height(next), on);
     }
-    if i == count {
-        return s;
-    }
-    let left = count - i;
-    let top = from + count;
-    decay::apply_decay(confirmed, resolved, boards::factor_of(on), Blocks(left));
-    State {
-        last: Some(Height(top)),
-        pending: 0,
-        recent: 0,
-    }
+    s
 }
 
 // Advances every height strictly between the last height, if there is one, and h.
