@@ -14,12 +14,10 @@ use kinds::{Height, Horizon, State};
 fn advances(last: Option<Height>, h: Height) -> bool
     ensures { result ≡ advances last h.0 }
 {
-    let Some(low) = last else {
-        return true;
-    };
-    let from = low.0;
-    let to = h.0;
-    from < to
+    match last {
+        Some(low) => low.0 < h.0,
+        None => true,
+    }
 }
 
 // The block: the skipped heights, the listed ids, and its own height if it advances.

@@ -13,15 +13,9 @@ use kinds::{BlockError, Blocks, CONFIRMED_SIZE, Height, Horizon, MAX_CONFIRMED_R
 fn gap(last: Option<Height>, h: Height) -> Blocks
     ensures { result.0 ≡ gap last h }
 {
-    let Some(low) = last else {
-        return Blocks(0);
-    };
-    let from = low.0;
-    let to = h.0;
-    if from < to {
-        Blocks(to - from)
-    } else {
-        Blocks(0)
+    match last {
+        Some(low) => Blocks(h.0.saturating_sub(low.0)),
+        None => Blocks(0),
     }
 }
 
