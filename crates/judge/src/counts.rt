@@ -12,18 +12,14 @@ pub fn sound_count(x: f64) -> bool
     x - x <= x
 }
 
-// Whether a slice has the counts of a kind, each of them sound. There is no way out of the loop, so that several counts are looked at together.
+// Whether a slice has the counts of a kind, each of them sound. The fold has no way out, so that several counts are looked at together.
 pub fn sound_counts(counts: &[f64]) -> bool
     ensures { result ≡ sound_counts counts.now }
 {
     if counts.len() < COUNTS {
         return false;
     }
-    let mut ok = true;
-    let mut i: usize = 0;
-    while i < COUNTS {
-        ok = ok & sound_count(counts[i]);
-        i += 1;
-    }
-    ok
+    counts[..COUNTS]
+        .iter()
+        .fold(true, |ok, x| ok & sound_count(*x))
 }

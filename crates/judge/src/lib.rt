@@ -14,6 +14,7 @@ use tables::judge_confirmed;
 pub use tables::{in_range, judge_pending};
 
 // Whether all of the lent memory is sound.
+#[tactic(auto, unfolding(rules::specs::Memory::sound))]
 pub fn judge_memory(
     state: State,
     confirmed: &[f64],
@@ -24,16 +25,8 @@ pub fn judge_memory(
 ) -> bool
     ensures { result ≡ sound (board_of on) state (lent confirmed.now resolved.now pending.now recent.now) }
 {
-    let used = state.pending;
-    let kept = state.recent;
-    if !sound_counts(confirmed) {
-        return false;
-    }
-    if !sound_counts(resolved) {
-        return false;
-    }
-    if !judge_pending(pending, used, on) {
-        return false;
-    }
-    judge_confirmed(recent, kept)
+    sound_counts(confirmed)
+        && sound_counts(resolved)
+        && judge_pending(pending, state.pending, on)
+        && judge_confirmed(recent, state.recent)
 }

@@ -12,18 +12,12 @@ use kinds::{
     MAX_PENDING_ENTRIES,
 };
 
-// Whether the bytes from `from` to `to` are all zero. There is no way out of the loop, so that many bytes are looked at together.
+// Whether the bytes from `from` to `to` are all zero. The fold has no way out, so that many bytes are looked at together.
 fn zero_between(table: &[u8], from: usize, to: usize) -> bool
     requires { (from ≤ to) × (to ≤ length table.now) }
     ensures { result ≡ all_zero (slice from to table.now) }
 {
-    let mut ok = true;
-    let mut i = from;
-    while i < to {
-        ok = ok & (table[i] == 0);
-        i += 1;
-    }
-    ok
+    table[from..to].iter().fold(true, |ok, x| ok & (*x == 0))
 }
 
 // Whether there is room for the first `used` records, with zeros behind them up to the capacity.
@@ -32,10 +26,7 @@ fn room_and_zeros(table: &[u8], size: usize, most: usize, used: usize) -> bool
     ensures { result ≡ (leb used (capacity size most table.now) && all_zero (slice (used * size) (capacity size most table.now * size) table.now)) }
 {
     let cap = table::capacity(table, size, most);
-    if cap < used {
-        return false;
-    }
-    zero_between(table, used * size, cap * size)
+    used <= cap && zero_between(table, used * size, cap * size)
 }
 
 // Whether pending record number `i` has a bucket that there is, and a resolved-through not above the last column.
@@ -45,10 +36,7 @@ fn one_in_range(table: &[u8], size: usize, used: usize, i: usize) -> bool
     ensures { result ≡ in_range (pending_of (get_or (records size used table.now) i [])) }
 {
     let r = table::pending_at(table, size, used, i);
-    if BUCKET_COUNT <= r.bucket as usize {
-        return false;
-    }
-    r.through as usize <= MAX_CONF_TARGET
+    (r.bucket as usize) < BUCKET_COUNT && r.through as usize <= MAX_CONF_TARGET
 }
 
 // Whether the fields of each of `used` pending records of `size` bytes are in range, in a table or in a file.
@@ -56,14 +44,7 @@ pub fn in_range(table: &[u8], size: usize, used: usize) -> bool
     requires { (pending_size ≤ size) × (used * size ≤ length table.now) }
     ensures { result ≡ every in_range (map pending_of (records size used table.now)) }
 {
-    let mut i = 0;
-    while i < used {
-        if !one_in_range(table, size, used, i) {
-            return false;
-        }
-        i += 1;
-    }
-    true
+    (0..used).all(|i| one_in_range(table, size, used, i))
 }
 
 // Whether the ids of the first `used` pending records rise strictly, and the fields of each are in range: one pass, as `ids_rise` and `in_range` are two.
@@ -78,8 +59,7 @@ fn records_sound(table: &[u8], size: usize, used: usize) -> bool
         return false;
     }
     let mut last = mem::u32_be(table, 0);
-    let mut i = 1;
-    while i < used {
+    for i in 1..used {
         let at = i * size;
         let next = mem::u32_be(table, at);
         if next <= last {
@@ -91,7 +71,6 @@ fn records_sound(table: &[u8], size: usize, used: usize) -> bool
             return false;
         }
         last = next;
-        i += 1;
     }
     true
 }
@@ -101,18 +80,13 @@ pub fn judge_pending(table: &[u8], used: usize, on: Horizon) -> bool
     ensures { result ≡ sound_pending (board_of on) used table.now }
 {
     let size = boards::record_size(on);
-    if room_and_zeros(table, size, MAX_PENDING_ENTRIES, used) {
-        return records_sound(table, size, used);
-    }
-    false
+    room_and_zeros(table, size, MAX_PENDING_ENTRIES, used) && records_sound(table, size, used)
 }
 
 // Whether a confirmed table is sound.
 pub(crate) fn judge_confirmed(table: &[u8], used: usize) -> bool
     ensures { result ≡ sound_confirmed used table.now }
 {
-    if room_and_zeros(table, CONFIRMED_SIZE, MAX_CONFIRMED_RECORDS, used) {
-        return ids::ids_rise(table, CONFIRMED_SIZE, used);
-    }
-    false
+    room_and_zeros(table, CONFIRMED_SIZE, MAX_CONFIRMED_RECORDS, used)
+        && ids::ids_rise(table, CONFIRMED_SIZE, used)
 }

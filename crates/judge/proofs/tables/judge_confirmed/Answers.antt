@@ -16,10 +16,10 @@ unfolding sound_confirmed
 returns-then-room_and_zeros c =
     sym (table_is confirmed_size confirmed_most c.args.used c.args.table.now ∙ rw (first (goal.at.returns-then-room_and_zeros c).Then-room_and_zeros, c.ids_rise.ensures))
 
-pub returns : goal.returns
+pub returns-else-room_and_zeros : goal.returns-else-room_and_zeros
 unfolding sound_confirmed
-returns c =
-    sym (table_is confirmed_size confirmed_most c.args.used c.args.table.now ∙ rw (sym c.room_and_zeros.ensures ∙ c.if-room_and_zeros.false))
+returns-else-room_and_zeros c =
+    sym (table_is confirmed_size confirmed_most c.args.used c.args.table.now ∙ rw (sym c.room_and_zeros.ensures ∙ c.if-room_and_zeros.false) (sym c.if-room_and_zeros.false))
 
 pub ids_rise-requires : goal.ids_rise-requires
 ids_rise-requires c = omega (arith, roomy_told confirmed_size confirmed_most c.args.used c.args.table.now (first (goal.at.ids_rise-requires c).Then-room_and_zeros))

@@ -29,9 +29,9 @@ pub returns-then-room_and_zeros : goal.returns-then-room_and_zeros
 returns-then-room_and_zeros c =
     sym (sound_is c.args.on _ c.args.used c.args.table.now c.record_size-size.ensures.value ∙ rw (first (goal.at.returns-then-room_and_zeros c).Then-room_and_zeros, c.records_sound.ensures))
 
-pub returns : goal.returns
-returns c =
-    sym (sound_is c.args.on _ c.args.used c.args.table.now c.record_size-size.ensures.value ∙ rw (sym c.room_and_zeros.ensures ∙ c.if-room_and_zeros.false))
+pub returns-else-room_and_zeros : goal.returns-else-room_and_zeros
+returns-else-room_and_zeros c =
+    sym (sound_is c.args.on _ c.args.used c.args.table.now c.record_size-size.ensures.value ∙ rw (sym c.room_and_zeros.ensures ∙ c.if-room_and_zeros.false) (sym c.if-room_and_zeros.false))
 
 pub records_sound-requires : goal.records_sound-requires
 records_sound-requires c = (c.record_size-size.ensures.lower_bound, roomy_told _ pending_most c.args.used c.args.table.now (first (goal.at.records_sound-requires c).Then-room_and_zeros))

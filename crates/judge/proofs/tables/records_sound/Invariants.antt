@@ -1,7 +1,6 @@
 -- `judge::tables::records_sound` meets its contract. The invariant: `Climb` of the ids, and whether all fields are in range is whether those of the records from `i`
 -- on are. Assumes nothing.
 use mathlib.Core.Path.{◌≡◌}
-use Prim.Native.Nat.{◌-◌}
 use lib.ListN.{drop}
 use Rattle.rules.specs.Records.{records}
 use Rattle.ids.proofs.Climb.{Climb}
@@ -10,6 +9,3 @@ use Rattle.judge.proofs.tables.records_sound.Given as goal
 
 abbrev pub invariant-loop-i : goal.invariant-loop-i
 invariant-loop-i l = Climb l.size l.used l.table l.last l.i × (fine (records l.size l.used l.table) ≡ fine (drop l.i (records l.size l.used l.table)))
-
-abbrev pub decreases-loop-i : goal.decreases-loop-i
-decreases-loop-i l = l.used - l.i
