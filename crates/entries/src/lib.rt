@@ -47,7 +47,12 @@ pub fn tx_entered(
 }
 
 // Leave (id).
-pub fn tx_left(state: State, pending: &mut [u8], id: &[u8; 32], on: Horizon) -> Result<State, LeaveError>
+pub fn tx_left(
+    state: State,
+    pending: &mut [u8],
+    id: &[u8; 32],
+    on: Horizon,
+) -> Result<State, LeaveError>
     ensures { outcome (leave_answer result) (state_or state result) pending.new ≡ leave_call (board_of on) state pending.old id.now }
 {
     let used = state.pending;

@@ -7,7 +7,6 @@ use mathlib.Core.List.{List}
 use native.Mathlib.Omega.{arith}
 use lib.Dec.{ltb}
 use lib.ListN.{length}
-use Rattle.kinds.specs.Answers.{bucket_answer}
 use Rattle.rules.specs.Ladder.{floor, bucket_index}
 use Rattle.rules.specs.Board.{Board, board_of, pending_most}
 use Rattle.rules.proofs.Boards.{board_lawful}
@@ -20,7 +19,7 @@ use Rattle.by_id.proofs.ById.{searchable, told, gap_used}
 use Rattle.entries.proofs.Answered.{Given, Ends, one_more, enter_damaged, enter_low, enter_there, enter_full, enter_done}
 use borrow.Author.Rules.{rules}
 use Rattle.entries.proofs.tx_entered.Goals as goal
-use Rattle.entries.proofs.tx_entered.Goals.{After-capacity, Else-not-judge_pending, In-Bucket, In-Gap, Start}
+use Rattle.entries.proofs.tx_entered.Goals.{After-capacity, Else-not-judge_pending, In-Some, In-Err, Start}
 
 abbrev given : Start → Given
 given s = record { state = s.args.state; table = s.args.pending.now; id = s.args.id.now }
@@ -33,11 +32,11 @@ sound : (c : Else-not-judge_pending) → sound_pending (board_of c.args.on) c.ar
 sound c = sym c.judge_pending.ensures ∙ c.if-not-judge_pending.false
 
 -- past the second the rate has a bucket
-found : (c : In-Bucket) → (ltb c.args.rate.0 floor ≡ false) × (c.in-Bucket.bucket ≡ bucket_index c.args.rate.0)
-found c = high_of _ _ (sym (ap bucket_answer c.in-Bucket.is) ∙ c.bucket_index_for_rate.ensures)
+found : (c : In-Some) → (ltb c.args.rate.0 floor ≡ false) × (c.in-Some.bucket ≡ bucket_index c.args.rate.0)
+found c = high_of _ _ (sym c.in-Some.is ∙ c.bucket_index_for_rate.ensures)
 
 -- where the search ends in a gap
-gap : (c : In-Gap) → Ends (board_of c.args.on) (board_lawful c.args.on) (record { state = c.args.state; table = c.args.pending.now; id = c.args.id.now }) (Err c.in-Err.at)
+gap : (c : In-Err) → Ends (board_of c.args.on) (board_lawful c.args.on) (record { state = c.args.state; table = c.args.pending.now; id = c.args.id.now }) (Err c.in-Err.at)
 gap c = told _ _ _ _ _ c.record_size-size.ensures.value c.find.ensures c.in-Err.is
 
 -- and the table is not full
@@ -60,33 +59,33 @@ find-requires c =
 
 pub returns-in_default : goal.returns-in_default
 returns-in_default c =
-    enter_low (board (goal.at.returns-in_default c).Start) (board_lawful c.args.on) (given (goal.at.returns-in_default c).Start) (sound (goal.at.returns-in_default c).Else-not-judge_pending) c.args.rate c.args.height (low_of _ (sym (ap bucket_answer c.in_default.is) ∙ c.bucket_index_for_rate.ensures))
+    enter_low (board (goal.at.returns-in_default c).Start) (board_lawful c.args.on) (given (goal.at.returns-in_default c).Start) (sound (goal.at.returns-in_default c).Else-not-judge_pending) c.args.rate c.args.height (low_of _ (sym c.in_default.is ∙ c.bucket_index_for_rate.ensures))
 
 pub returns-then-used-capacity : goal.returns-then-used-capacity
 returns-then-used-capacity c =
-    enter_full (board_of c.args.on) (board_lawful c.args.on) (given (goal.at.returns-then-used-capacity c).Start) (sound (goal.at.returns-then-used-capacity c).Else-not-judge_pending) c.args.rate c.args.height (found (goal.at.returns-then-used-capacity c).In-Bucket).0 c.in-Err.at (gap (goal.at.returns-then-used-capacity c).In-Gap) (c.if-used-capacity.true ∙ full_at (goal.at.returns-then-used-capacity c).After-capacity)
+    enter_full (board_of c.args.on) (board_lawful c.args.on) (given (goal.at.returns-then-used-capacity c).Start) (sound (goal.at.returns-then-used-capacity c).Else-not-judge_pending) c.args.rate c.args.height (found (goal.at.returns-then-used-capacity c).In-Some).0 c.in-Err.at (gap (goal.at.returns-then-used-capacity c).In-Err) (c.if-used-capacity.true ∙ full_at (goal.at.returns-then-used-capacity c).After-capacity)
 
 pub overflow_cast-bucket : goal.overflow_cast-bucket
-overflow_cast-bucket c = omega (arith, (found (goal.at.overflow_cast-bucket c).In-Bucket).1, bucket_lt c.args.rate.0)
+overflow_cast-bucket c = omega (arith, (found (goal.at.overflow_cast-bucket c).In-Some).1, bucket_lt c.args.rate.0)
 
 pub insert_pending-requires : goal.insert_pending-requires
 insert_pending-requires c = record {
   at_le_used = (
-    gap_used (board_of c.args.on).table.size c.args.state.pending c.in-Err.at c.args.pending.now c.args.id.now (gap (goal.at.insert_pending-requires c).In-Gap),
+    gap_used (board_of c.args.on).table.size c.args.state.pending c.in-Err.at c.args.pending.now c.args.id.now (gap (goal.at.insert_pending-requires c).In-Err),
     (room _ _ _ (sound (goal.at.insert_pending-requires c).Else-not-judge_pending) (full_at (goal.at.insert_pending-requires c).After-capacity) c.if-used-capacity.false).1,
   );
   id_len = search rules;
 }
 
-pub returns-in-Ok : goal.returns-in-Ok
-returns-in-Ok c =
-    enter_there (board (goal.at.returns-in-Ok c).Start) (board_lawful c.args.on) (given (goal.at.returns-in-Ok c).Start) (sound (goal.at.returns-in-Ok c).Else-not-judge_pending) c.args.rate c.args.height (found (goal.at.returns-in-Ok c).In-Bucket).0 c.in-Ok.field-0 (told _ _ _ _ _ c.record_size-size.ensures.value c.find.ensures c.in-Ok.is)
+pub returns-in_default-find : goal.returns-in_default-find
+returns-in_default-find c =
+    enter_there (board (goal.at.returns-in_default-find c).Start) (board_lawful c.args.on) (given (goal.at.returns-in_default-find c).Start) (sound (goal.at.returns-in_default-find c).Else-not-judge_pending) c.args.rate c.args.height (found (goal.at.returns-in_default-find c).In-Some).0 c.in_default-find.field-0 (told _ _ _ _ _ c.record_size-size.ensures.value c.find.ensures c.in_default-find.is)
 
-pub returns-else-used-capacity : goal.returns-else-used-capacity
-returns-else-used-capacity c =
-    enter_done (board (goal.at.returns-else-used-capacity c).Start) (board_lawful c.args.on) (given (goal.at.returns-else-used-capacity c).Start) (sound (goal.at.returns-else-used-capacity c).Else-not-judge_pending) c.args.rate c.args.height (found (goal.at.returns-else-used-capacity c).In-Bucket).0 c.in-Err.at (gap (goal.at.returns-else-used-capacity c).In-Gap) (room _ _ _ (sound (goal.at.returns-else-used-capacity c).Else-not-judge_pending) (full_at (goal.at.returns-else-used-capacity c).After-capacity) c.if-used-capacity.false).0
+pub returns : goal.returns
+returns c =
+    enter_done (board (goal.at.returns c).Start) (board_lawful c.args.on) (given (goal.at.returns c).Start) (sound (goal.at.returns c).Else-not-judge_pending) c.args.rate c.args.height (found (goal.at.returns c).In-Some).0 c.in-Err.at (gap (goal.at.returns c).In-Err) (room _ _ _ (sound (goal.at.returns c).Else-not-judge_pending) (full_at (goal.at.returns c).After-capacity) c.if-used-capacity.false).0
     c.insert_pending.new.table (are_bytes_lem c.insert_pending.new.table (λ i. omega (arith, c.type_inv.pending i))) (search rules) (search rules)
-    c.in-Bucket.bucket (found (goal.at.returns-else-used-capacity c).In-Bucket).1 c.insert_pending.ensures c.with_pending.result c.with_pending.ensures
+    c.in-Some.bucket (found (goal.at.returns c).In-Some).1 c.insert_pending.ensures c.with_pending.result c.with_pending.ensures
 
 pub overflow_add-used : goal.overflow_add-used
 overflow_add-used c = omega (arith, room _ _ _ (sound (goal.at.overflow_add-used c).Else-not-judge_pending) (full_at (goal.at.overflow_add-used c).After-capacity) c.if-used-capacity.false)
