@@ -31,7 +31,7 @@ little = lent (nought ∷ []) (inf true ∷ nought ∷ []) (1 ∷ 2 ∷ 3 ∷ []
 
 -- what a line with these values and bytes does on a board, to what is lent there
 abbrev does_on : Horizon → Lent → Operation → ℕ → ℕ → ℕ → List ℕ → Did Lent
-does_on on l of a b c text = line_does on (record { operation = of; a = a; b = b; c = c; d = 0 }) run text l
+does_on on l of a b c text = line_does on (Some (record { operation = of; a = a; b = b; c = c; d = 0 })) run text l
 
 -- the same on the narrow board, to that little
 abbrev does : Operation → ℕ → ℕ → ℕ → List ℕ → Did Lent
@@ -64,7 +64,7 @@ counts = refl
 -- ---- lend, state, and lines that do nothing
 
 -- all is zero; a last height is told plus 1
-others : does Operation.Lend 3 2 1 [] ∷ does Operation.State 0 5 6 [] ∷ does Operation.State 1 5 6 [] ∷ does Operation.Sum 0 0 0 [] ∷ does Operation.Board 1 0 0 [] ∷ does Operation.Unfit 0 0 0 [] ∷ []
+others : does Operation.Lend 3 2 1 [] ∷ does Operation.State 0 5 6 [] ∷ does Operation.State 1 5 6 [] ∷ does Operation.Sum 0 0 0 [] ∷ does Operation.Board 1 0 0 [] ∷ line_does Horizon.Base None run [] little ∷ []
     ≡ did (silent true run) (lent (nought ∷ []) (nought ∷ nought ∷ []) (0 ∷ 0 ∷ 0 ∷ []) (0 ∷ 0 ∷ []))
     ∷ did (silent true (record { last = None; pending = 5; recent = 6 })) little
     ∷ did (silent true (record { last = Some (record { 0 = 0 }); pending = 5; recent = 6 })) little

@@ -33,7 +33,6 @@ module _ (on : Horizon) (of : Operation) (line : Line) (s : State) (text : List 
 
 -- the other lines change at most the lent memory itself
 pub others : (on : Horizon) (of : Operation) (line : Line) (s : State) (text : List ℕ) (l : Lent)
-    → (of ≡ Operation.Unfit → ⊥)
     → (of ≡ Operation.State → ⊥)
     → (of ≡ Operation.Start → ⊥)
     → (of ≡ Operation.Enter → ⊥)
@@ -44,22 +43,21 @@ pub others : (on : Horizon) (of : Operation) (line : Line) (s : State) (text : L
     → (of ≡ Operation.Again → ⊥)
     → operation_does on of line s text l ≡ on_memory s (operation_lays of line text l)
 unfolding operation_does
-others on Operation.Unfit line s text l a b c d e f g h i = absurd (a refl)
-others on Operation.PassedOver line s text l a b c d e f g h i = refl
-others on Operation.Board line s text l a b c d e f g h i = refl
-others on Operation.Lend line s text l a b c d e f g h i = refl
-others on Operation.Byte line s text l a b c d e f g h i = refl
-others on Operation.Count line s text l a b c d e f g h i = refl
-others on Operation.State line s text l a b c d e f g h i = absurd (b refl)
-others on Operation.Start line s text l a b c d e f g h i = absurd (c refl)
-others on Operation.Enter line s text l a b c d e f g h i = absurd (d refl)
-others on Operation.Leave line s text l a b c d e f g h i = absurd (e refl)
-others on Operation.Block line s text l a b c d e f g h i = absurd (f refl)
-others on Operation.BlockRaw line s text l a b c d e f g h i = absurd (g refl)
-others on Operation.Estimate line s text l a b c d e f g h i = refl
-others on Operation.Estimates line s text l a b c d e f g h i = refl
-others on Operation.Bucket line s text l a b c d e f g h i = refl
-others on Operation.Write line s text l a b c d e f g h i = refl
-others on Operation.Read line s text l a b c d e f g h i = absurd (h refl)
-others on Operation.Again line s text l a b c d e f g h i = absurd (i refl)
-others on Operation.Sum line s text l a b c d e f g h i = refl
+others on Operation.PassedOver line s text l b c d e f g h i = refl
+others on Operation.Board line s text l b c d e f g h i = refl
+others on Operation.Lend line s text l b c d e f g h i = refl
+others on Operation.Byte line s text l b c d e f g h i = refl
+others on Operation.Count line s text l b c d e f g h i = refl
+others on Operation.State line s text l b c d e f g h i = absurd (b refl)
+others on Operation.Start line s text l b c d e f g h i = absurd (c refl)
+others on Operation.Enter line s text l b c d e f g h i = absurd (d refl)
+others on Operation.Leave line s text l b c d e f g h i = absurd (e refl)
+others on Operation.Block line s text l b c d e f g h i = absurd (f refl)
+others on Operation.BlockRaw line s text l b c d e f g h i = absurd (g refl)
+others on Operation.Estimate line s text l b c d e f g h i = refl
+others on Operation.Estimates line s text l b c d e f g h i = refl
+others on Operation.Bucket line s text l b c d e f g h i = refl
+others on Operation.Write line s text l b c d e f g h i = refl
+others on Operation.Read line s text l b c d e f g h i = absurd (h refl)
+others on Operation.Again line s text l b c d e f g h i = absurd (i refl)
+others on Operation.Sum line s text l b c d e f g h i = refl

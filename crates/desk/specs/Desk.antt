@@ -1,5 +1,5 @@
 -- What a line of a script does to a board's lent memory and to its state, and what it is answered with. Assumes nothing.
-use Rattle.std.specs.Prelude.{Bool, true, false, List, ℕ}
+use Rattle.std.specs.Prelude.{Bool, true, false, List, ℕ, Option, Some, None}
 use Rattle.kinds.specs.declared.Horizon.{Horizon}
 use Rattle.kinds.specs.declared.State.{State}
 use Rattle.rules.specs.Memory.{Lent, lent}
@@ -25,7 +25,6 @@ on_memory s m = did (silent m.fits s) m.lent
 -- the page, row by row; a line that only asks does nothing, as `desk_lays` has it. How much is lent by a `lend`, that the state is then the empty one, and which
 -- board comes after a `board`, the run sees to
 unfoldable pub operation_does : Horizon → Operation → Line → State → List ℕ → Lent → Did Lent
-operation_does on Operation.Unfit line s text l = did (silent false s) l
 operation_does on Operation.PassedOver line s text l = on_memory s (operation_lays Operation.PassedOver line text l)
 operation_does on Operation.Board line s text l = on_memory s (operation_lays Operation.Board line text l)
 operation_does on Operation.Lend line s text l = on_memory s (operation_lays Operation.Lend line text l)
@@ -45,6 +44,7 @@ operation_does on Operation.Read line s text l = read_does on s text l
 operation_does on Operation.Again line s text l = read_does on s text l
 operation_does on Operation.Sum line s text l = on_memory s (operation_lays Operation.Sum line text l)
 
--- what a line with these bytes does on a board
-abbrev pub line_does : Horizon → Line → State → List ℕ → Lent → Did Lent
-line_does on line s text l = operation_does on line.operation line s text l
+-- what a line with these bytes does on a board; one that does not fit is told as such, and does nothing
+abbrev pub line_does : Horizon → Option Line → State → List ℕ → Lent → Did Lent
+line_does on None s text l = did (silent false s) l
+line_does on (Some line) s text l = operation_does on line.operation line s text l

@@ -25,9 +25,9 @@ fn silent(fits: bool, state: State) -> Done
     }
 }
 
-// What a line with these bytes does to a board's lent memory and state. A line that only asks does nothing here.
+// What a line with these bytes does to a board's lent memory and state. A line that only asks does nothing here; one that does not fit is told as such.
 pub fn change(
-    line: Line,
+    line: Option<Line>,
     state: State,
     text: &[u8],
     pending: &mut [u8],
@@ -39,9 +39,10 @@ pub fn change(
     ensures { did result (after confirmed resolved pending recent)
         ≡ line_does on line state text.now (before confirmed resolved pending recent) }
 {
-    let of = line.operation;
-    match of {
-        Operation::Unfit => silent(false, state),
+    let Some(line) = line else {
+        return silent(false, state);
+    };
+    match line.operation {
         Operation::State => silent(true, state_in(line)),
         Operation::Start => start(state, pending, recent, confirmed, resolved, on),
         Operation::Enter => enter(line, state, text, pending, on),

@@ -20,7 +20,6 @@ module _ (of : Operation) (line : Line) (text : List ℕ) (l : Lent) where
 -- the lines that leave it
 pub others : (of : Operation) (line : Line) (text : List ℕ) (l : Lent) → (of ≡ Operation.Lend → ⊥) → (of ≡ Operation.Byte → ⊥) → (of ≡ Operation.Count → ⊥) → operation_lays of line text l ≡ lain true l
 unfolding operation_lays
-others Operation.Unfit line text l a b c = refl
 others Operation.PassedOver line text l a b c = refl
 others Operation.Board line text l a b c = refl
 others Operation.Lend line text l a b c = absurd (a refl)

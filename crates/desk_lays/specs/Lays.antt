@@ -71,7 +71,6 @@ lain fits l = record { fits = fits; lent = l }
 
 -- the page's rows on lent memory itself; any other line fits, and leaves it
 unfoldable pub operation_lays : Operation → Line → List ℕ → Lent → Lain
-operation_lays Operation.Unfit line text l = lain true l
 operation_lays Operation.PassedOver line text l = lain true l
 operation_lays Operation.Board line text l = lain true l
 operation_lays Operation.Lend line text l = lain true (cleared l)

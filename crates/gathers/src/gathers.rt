@@ -4,10 +4,11 @@ ghost use Rattle.print.specs.Page.{page};
 ghost use Rattle.page.specs.Page.{most_ids};
 ghost use Rattle.gathers.specs.Gathers.{decoded, listed, source_of, gathered};
 
+use kinds::ID_SIZE;
 use lines::Line;
 use page::{MOST_IDS, Operation};
 use print::put;
-use script::hex::{Decoded, hex_into, id_in};
+use script::hex::{hex_into, id_in};
 use script::words::word_at;
 
 // Where the bytes of a line are.
@@ -27,73 +28,51 @@ enum Source {
 fn decode(text: &[u8], at: usize, buffer: &mut [u8]) -> usize
     ensures { page buffer.new result ≡ decoded text.now at buffer.old }
 {
-    let w = word_at(text, at);
-    let from = w.from;
-    let to = w.to;
-    let put = hex_into(&text[from..to], buffer);
-    match put {
-        Decoded::Bytes(n) => n,
-        Decoded::Bad => 0,
-    }
+    let word = word_at(text, at);
+    hex_into(&text[word], buffer).unwrap_or(0)
 }
 
-// Puts the ids from `at` on, one after the other: how many bytes. An id that has no room is not put.
+// Puts the ids from `at` on, one after the other: how many bytes. An id that has no room is not put, and a word that says none is put as zeros.
 fn list_ids(text: &[u8], at: usize, buffer: &mut [u8]) -> usize
     ensures { page buffer.new result ≡ listed most_ids text.now at (page buffer.old 0) }
 {
     let mut from = at;
-    let mut left = MOST_IDS;
     let mut k = 0;
-    while from <= text.len() {
-        if left == 0 {
+    for _ in 0..MOST_IDS {
+        if text.len() < from {
             break;
         }
-        let w = word_at(text, from);
-        let begin = w.from;
-        let end = w.to;
-        let id = id_in(&text[begin..end]);
-        let bytes = id.bytes;
-        k = put(buffer, k, &bytes);
-        left -= 1;
-        from = end + 1;
+        let word = word_at(text, from);
+        from = word.end + 1;
+        let id = id_in(&text[word]).unwrap_or([0; ID_SIZE]);
+        k = put(buffer, k, &id);
     }
     k
 }
 
-// Where the bytes of this line are.
-fn source_of(line: Line) -> Source
+// Where the bytes of a line are; one that does not fit has none.
+fn source_of(line: Option<Line>) -> Source
     ensures { result ≡ source_of line }
 {
-    let of = line.operation;
-    match of {
+    let Some(line) = line else {
+        return Source::Nowhere;
+    };
+    match line.operation {
         Operation::Byte => Source::Digits(line.c as usize),
-        Operation::Enter => Source::Digits(line.a as usize),
-        Operation::Leave => Source::Digits(line.a as usize),
-        Operation::Read => Source::Digits(line.a as usize),
+        Operation::Enter | Operation::Leave | Operation::Read => Source::Digits(line.a as usize),
         Operation::BlockRaw => Source::Digits(line.b as usize),
         Operation::Block => Source::Ids(line.b as usize),
         Operation::Again => Source::Kept,
-        Operation::Board => Source::Nowhere,
-        Operation::Lend => Source::Nowhere,
-        Operation::Count => Source::Nowhere,
-        Operation::State => Source::Nowhere,
-        Operation::Start => Source::Nowhere,
-        Operation::Estimate => Source::Nowhere,
-        Operation::Estimates => Source::Nowhere,
-        Operation::Bucket => Source::Nowhere,
-        Operation::Write => Source::Nowhere,
-        Operation::Sum => Source::Nowhere,
-        Operation::Unfit => Source::Nowhere,
-        Operation::PassedOver => Source::Nowhere,
+        _ => Source::Nowhere,
     }
 }
 
 // Puts the bytes of a line's digits or ids, or those that are kept: how many.
-pub fn gather(line: Line, text: &[u8], kept: &[u8], buffer: &mut [u8]) -> usize
+#[tactic(auto, unfolding(crate::specs::Gathers::gathered))]
+pub fn gather(line: Option<Line>, text: &[u8], kept: &[u8], buffer: &mut [u8]) -> usize
     ensures { page buffer.new result ≡ gathered line text.now kept.now buffer.old }
 {
-    let source = source_of(line);
-    match source {
+    match source_of(line) {
         Source::Nowhere => 0,
         Source::Digits(at) => decode(text, at, buffer),
         Source::Ids(at) => list_ids(text, at, buffer),

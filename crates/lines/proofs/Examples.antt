@@ -6,6 +6,7 @@ use Prim.Native.String.{String, [] as end, ◌∷◌ as ◌then◌}
 use mathlib.Core.Path.{◌≡◌, refl}
 use mathlib.Core.Bool.{Bool, true, false}
 use mathlib.Core.List.{List, [], ◌∷◌, map}
+use Rattle.std.specs.Prelude.{Option, Some, None}
 use Rattle.kinds.specs.declared.Horizon.{Horizon}
 use Rattle.rules.specs.Ids.{same}
 use Rattle.rules.specs.Lists.{every}
@@ -27,35 +28,35 @@ pub record Example : Type 0 where
   pub on : Horizon
   pub begun : Bool
   pub line : String
-  pub asks : Line
+  pub asks : Option Line
 
 -- a line for the narrow board after its `lend`
-abbrev after_lend : String → Line → Example
+abbrev after_lend : String → Option Line → Example
 after_lend line asks = record { on = Horizon.Base; begun = true; line = line; asks = asks }
 
 -- a line before it
-abbrev before_lend : String → Line → Example
+abbrev before_lend : String → Option Line → Example
 before_lend line asks = record { on = Horizon.Base; begun = false; line = line; asks = asks }
 
 -- a line for the wide board after its `lend`
-abbrev wide_after : String → Line → Example
+abbrev wide_after : String → Option Line → Example
 wide_after line asks = record { on = Horizon.Wide; begun = true; line = line; asks = asks }
 
 -- a line before it
-abbrev wide_before : String → Line → Example
+abbrev wide_before : String → Option Line → Example
 wide_before line asks = record { on = Horizon.Wide; begun = false; line = line; asks = asks }
 
 -- an operation and its values
-abbrev asks : Operation → ℕ → ℕ → ℕ → ℕ → Line
-asks of a b c d = record { operation = of; a = a; b = b; c = c; d = d }
+abbrev asks : Operation → ℕ → ℕ → ℕ → ℕ → Option Line
+asks of a b c d = Some (record { operation = of; a = a; b = b; c = c; d = d })
 
 -- no line of the page
-abbrev unfit : Line
-unfit = bare Operation.Unfit
+abbrev unfit : Option Line
+unfit = None
 
 -- a line that asks for nothing
-abbrev passed : Line
-passed = bare Operation.PassedOver
+abbrev passed : Option Line
+passed = Some (bare Operation.PassedOver)
 
 -- `lend`, and lines before the first one
 unfoldable pub lends : List Example
@@ -106,10 +107,10 @@ boards =
 -- lines of no field, and first words that are none
 unfoldable pub bares : List Example
 bares =
-    after_lend "start" (bare Operation.Start)
-    ∷ after_lend "estimates" (bare Operation.Estimates)
-    ∷ after_lend "again" (bare Operation.Again)
-    ∷ after_lend "sum" (bare Operation.Sum)
+    after_lend "start" (Some (bare Operation.Start))
+    ∷ after_lend "estimates" (Some (bare Operation.Estimates))
+    ∷ after_lend "again" (Some (bare Operation.Again))
+    ∷ after_lend "sum" (Some (bare Operation.Sum))
     ∷ after_lend "start 1" unfit
     ∷ after_lend "start " unfit
     ∷ after_lend "starts" unfit
@@ -179,11 +180,11 @@ lists =
     ∷ []
 
 -- what the definition gives for each
-abbrev given : List Example → List Line
+abbrev given : List Example → List (Option Line)
 given es = map (λ e. line_of e.on e.begun (codes e.line)) es
 
 -- what it is to give
-abbrev expected : List Example → List Line
+abbrev expected : List Example → List (Option Line)
 expected es = map (λ e. e.asks) es
 
 -- all of them hold

@@ -2,5 +2,3 @@
 
 -- words compared, and the rows of the page
 pub mod Naming
--- the operations by their places
-pub mod Places

@@ -1,14 +1,14 @@
--- Words compared, and the rows of the page from the last to the first.
+-- Words compared, and what is found.
 -- Assumes nothing.
-use mathlib.Core.Path.{◌≡◌, refl, ap, ◌∙◌}
-use mathlib.Core.Bool.{Bool, ◌&&◌, cond}
+use mathlib.Core.Path.{◌≡◌, refl, ap}
+use mathlib.Core.Bool.{Bool, true, false, ◌&&◌, cond}
 use mathlib.Core.List.{List, [], ◌∷◌}
 use Prim.Native.Nat.{ℕ}
-use Rattle.rules.specs.Ids.{same}
 use lib.Dec.{eqb}
 use lib.Pointwise.{pointwise}
-use Rattle.page.specs.Page.{Row, found}
-use Rattle.page.specs.declared.page.Operation.{Operation}
+use Rattle.std.specs.Prelude.{Option, Some, None}
+use Rattle.std.specs.Option.{option_map, option_or}
+use Rattle.rules.specs.Ids.{same}
 
 -- what `==` says of two words
 pub equal_same : (a b : List ℕ) → pointwise eqb a b ≡ same a b
@@ -18,13 +18,11 @@ equal_same [] (y ∷ b) = refl
 equal_same (x ∷ a) [] = refl
 equal_same (x ∷ a) (y ∷ b) = ap (λ (t : Bool). eqb x y && t) (equal_same a b)
 
-module _ (w : List ℕ) (other : Operation) where
-  -- no row yet
-  pub none : other ≡ found [] w other
-  unfolding found
-  none = refl
+-- what is made of the first that is found, made of each
+pub option_map-cond : {T U : Type 0} (f : T → U) (t : Bool) (a b : Option T) → option_map f (cond t a b) ≡ cond t (option_map f a) (option_map f b)
+option_map-cond f true a b = refl
+option_map-cond f false a b = refl
 
-  -- one row more in front
-  pub more : (r : Row) (rs : List Row) {a b : Operation} → b ≡ cond (same w r.word) r.of a → a ≡ found rs w other → b ≡ found (r ∷ rs) w other
-  unfolding found
-  more r rs e h = e ∙ rw h refl
+pub option_or-None : {T : Type 0} (o : Option T) → option_or o None ≡ o
+option_or-None None = refl
+option_or-None (Some x) = refl

@@ -1,5 +1,6 @@
 -- The table of the scripts' page: the operations by their first words, and the fields that follow each. Assumes nothing.
-use Rattle.std.specs.Prelude.{ℕ, Bool, cond, List, [], ◌∷◌}
+use Rattle.std.specs.Prelude.{ℕ, Bool, cond, List, [], ◌∷◌, ◌++◌, Option, Some, None}
+use Rattle.std.specs.Option.{option_or}
 use Rattle.kinds.specs.declared.Horizon.{Horizon}
 use Rattle.rules.specs.Ids.{same}
 use Rattle.page.specs.Words.{Text, board, lend, byte, count, state, start, enter, leave, block, blockraw, estimate, estimates, bucket, write, read, again, sum}
@@ -47,18 +48,18 @@ questions =
     ∷ row again Operation.Again
     ∷ []
 
--- the operation of the row that begins with w, or else another
-unfoldable pub found : List Row → Text → Operation → Operation
-found [] w other = other
-found (r ∷ rs) w other = cond (same w r.word) r.of (found rs w other)
+-- the operation of the row that begins with w
+unfoldable pub found : List Row → Text → Option Operation
+found [] w = None
+found (r ∷ rs) w = cond (same w r.word) (Some r.of) (found rs w)
 
 -- the operation that a first word names, of those for a lent board
-unfoldable pub operation_of : Text → Operation
-operation_of w = found memory w (found calls w (found questions w Operation.Unfit))
+unfoldable pub operation_of : Text → Option Operation
+operation_of w = found (memory ++ (calls ++ questions)) w
 
 -- the operation of a first word; any other line than these two, for a board that is not lent yet, is a bad one
-unfoldable pub allowed : Bool → Text → Operation
-allowed begun w = found openings w (cond begun (operation_of w) Operation.Unfit)
+unfoldable pub allowed : Bool → Text → Option Operation
+allowed begun w = option_or (found openings w) (cond begun (operation_of w) None)
 
 -- ---- the bounds
 
@@ -137,5 +138,4 @@ fields_of on Operation.Start = one Field.Nothing
 fields_of on Operation.Estimates = one Field.Nothing
 fields_of on Operation.Again = one Field.Nothing
 fields_of on Operation.Sum = one Field.Nothing
-fields_of on Operation.Unfit = one Field.Nothing
 fields_of on Operation.PassedOver = one Field.Nothing

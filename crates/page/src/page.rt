@@ -1,7 +1,8 @@
 // The scripts' page: the operations by their first words, and the fields that follow each.
-ghost use Rattle.std.specs.Prelude.{◌≡◌, cond};
+ghost use Rattle.std.specs.Prelude.{◌≡◌, find};
+ghost use Rattle.std.specs.Option.{option_map};
 ghost use Rattle.rules.specs.Ids.{same};
-ghost use Rattle.page.specs.Page.{found, openings, calls, questions, operation_of, allowed, most_pending, most_recent, fields_of};
+ghost use Rattle.page.specs.Page.{allowed, most_pending, most_recent, fields_of};
 
 use crate::limits::{
     MOST_COUNTS, MOST_HISTORY, MOST_PENDING, MOST_RECENT, MOST_SHORT, MOST_WIDE_PENDING,
@@ -12,8 +13,6 @@ use kinds::{Horizon, ID_SIZE};
 // An operation, by its first word.
 #[derive(Clone, Copy)]
 pub enum Operation {
-    // No operation of the page.
-    Unfit,
     // An empty line, or a comment.
     PassedOver,
     Board,
@@ -71,86 +70,56 @@ pub fn is(word: &[u8], text: &[u8]) -> bool
     word == text
 }
 
-// An operation where the word is its name, and else another.
-fn named(word: &[u8], name: &[u8], of: Operation, other: Operation) -> Operation
-    ensures { result ≡ cond (same word.now name.now) of other }
-{
-    if is(word, name) {
-        return of;
-    }
-    other
-}
+// First words and their operations: which board it is, and what is lent to it.
+const OPENINGS: [(&[u8], Operation); 2] = [
+    (b"lend", Operation::Lend),
+    (b"board", Operation::Board),
+];
 
-// The operation of a word, of those that ask, or write or read a history.
-fn question(word: &[u8]) -> Operation
-    ensures { result ≡ found questions word.now Operation.Unfit }
-{
-    let of = named(word, b"again", Operation::Again, Operation::Unfit);
-    let of = named(word, b"read", Operation::Read, of);
-    let of = named(word, b"write", Operation::Write, of);
-    let of = named(word, b"bucket", Operation::Bucket, of);
-    let of = named(word, b"estimates", Operation::Estimates, of);
-    named(word, b"estimate", Operation::Estimate, of)
-}
+// All others, which stand after a board's `lend`.
+const OTHERS: [(&[u8], Operation); 15] = [
+    (b"byte", Operation::Byte),
+    (b"count", Operation::Count),
+    (b"state", Operation::State),
+    (b"sum", Operation::Sum),
+    (b"start", Operation::Start),
+    (b"enter", Operation::Enter),
+    (b"leave", Operation::Leave),
+    (b"block", Operation::Block),
+    (b"blockraw", Operation::BlockRaw),
+    (b"estimate", Operation::Estimate),
+    (b"estimates", Operation::Estimates),
+    (b"bucket", Operation::Bucket),
+    (b"write", Operation::Write),
+    (b"read", Operation::Read),
+    (b"again", Operation::Again),
+];
 
-// The same, with those that change what the estimator holds.
-fn call(word: &[u8]) -> Operation
-    ensures { result ≡ found calls word.now (found questions word.now Operation.Unfit) }
+// The operation of the row that begins with the word.
+fn found(rows: &[(&[u8], Operation)], word: &[u8]) -> Option<Operation>
+    ensures { result ≡ option_map (λ r. r.1) (find (λ r. same word.now r.0.now) rows.now) }
 {
-    let of = question(word);
-    let of = named(word, b"blockraw", Operation::BlockRaw, of);
-    let of = named(word, b"block", Operation::Block, of);
-    let of = named(word, b"leave", Operation::Leave, of);
-    let of = named(word, b"enter", Operation::Enter, of);
-    named(word, b"start", Operation::Start, of)
-}
-
-// The same, with those on lent memory.
-fn operation_of(word: &[u8]) -> Operation
-    ensures { result ≡ operation_of word.now }
-{
-    let of = call(word);
-    let of = named(word, b"sum", Operation::Sum, of);
-    let of = named(word, b"state", Operation::State, of);
-    let of = named(word, b"count", Operation::Count, of);
-    named(word, b"byte", Operation::Byte, of)
-}
-
-// The operation of a word, of those that may stand before a board is lent, and else another.
-fn opening(word: &[u8], other: Operation) -> Operation
-    ensures { result ≡ found openings word.now other }
-{
-    let of = named(word, b"board", Operation::Board, other);
-    named(word, b"lend", Operation::Lend, of)
+    rows.iter().find(|row| is(word, row.0)).map(|row| row.1)
 }
 
 // The operation of a first word, if it may stand there; `begun` where the board is lent.
-pub fn allowed(word: &[u8], begun: bool) -> Operation
+pub fn allowed(word: &[u8], begun: bool) -> Option<Operation>
     ensures { result ≡ allowed begun word.now }
 {
+    let opening = found(&OPENINGS, word);
     if begun {
-        return opening(word, operation_of(word));
+        return opening.or(found(&OTHERS, word));
     }
-    opening(word, Operation::Unfit)
+    opening
 }
 
-// The most bytes that are lent for a board's pending records.
-fn most_pending(on: Horizon) -> u64
-    ensures { result ≡ most_pending on }
+// The most bytes that are lent for a board's pending records, and for its confirmed ones.
+fn most_lent(on: Horizon) -> (u64, u64)
+    ensures { (result.0 ≡ most_pending on) × (result.1 ≡ most_recent on) }
 {
     match on {
-        Horizon::Base => MOST_PENDING as u64,
-        Horizon::Wide => MOST_WIDE_PENDING as u64,
-    }
-}
-
-// The most bytes that are lent for a board's confirmed records.
-fn most_recent(on: Horizon) -> u64
-    ensures { result ≡ most_recent on }
-{
-    match on {
-        Horizon::Base => MOST_RECENT as u64,
-        Horizon::Wide => MOST_WIDE_RECENT as u64,
+        Horizon::Base => (MOST_PENDING as u64, MOST_RECENT as u64),
+        Horizon::Wide => (MOST_WIDE_PENDING as u64, MOST_WIDE_RECENT as u64),
     }
 }
 
@@ -159,8 +128,9 @@ pub fn fields_of(of: Operation, on: Horizon) -> Fields
     ensures { result ≡ fields_of on of }
 {
     let none = Field::Nothing;
-    let pending = Field::Number(most_pending(on));
-    let recent = Field::Number(most_recent(on));
+    let most = most_lent(on);
+    let pending = Field::Number(most.0);
+    let recent = Field::Number(most.1);
     let place = Field::Number(MOST_RECENT as u64);
     let counts = Field::Number(MOST_COUNTS as u64);
     let history = Field::Number(MOST_HISTORY as u64);
@@ -182,11 +152,10 @@ pub fn fields_of(of: Operation, on: Horizon) -> Fields
         Operation::Bucket => Fields(long, none, none, none),
         Operation::Write => Fields(history, none, none, none),
         Operation::Read => Fields(Field::Any, none, none, none),
-        Operation::Start => Fields(none, none, none, none),
-        Operation::Estimates => Fields(none, none, none, none),
-        Operation::Again => Fields(none, none, none, none),
-        Operation::Sum => Fields(none, none, none, none),
-        Operation::Unfit => Fields(none, none, none, none),
-        Operation::PassedOver => Fields(none, none, none, none),
+        Operation::Start
+        | Operation::Estimates
+        | Operation::Again
+        | Operation::Sum
+        | Operation::PassedOver => Fields(none, none, none, none),
     }
 }

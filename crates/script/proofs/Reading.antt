@@ -1,20 +1,20 @@
 -- Laws of numbers in digits, as a loop from the first digit goes: what is left, read after what was read, says the whole number.
 -- Assumes nothing.
-use mathlib.Core.Path.{◌≡◌, refl}
+use mathlib.Core.Path.{◌≡◌, refl, sym}
 use mathlib.Core.Bool.{Bool, true, false, ◌&&◌, cond}
 use mathlib.Core.List.{List, [], ◌∷◌}
-use Prim.Native.Nat.{ℕ, ◌+◌, ◌*◌, ◌-◌, ◌/◌, ◌≤◌, ◌<◌}
-use native.Mathlib.Nat.{suc-ne-zero, le-div_iff_mul-le, div-lt_iff_lt-mul, mul-le-mul_left}
+use Prim.Native.Nat.{ℕ, ◌+◌, ◌*◌, ◌≤◌, ◌<◌}
+use native.Mathlib.Nat.{suc-ne-zero, mul-le-mul_left}
 use native.Mathlib.Numerals.{add-one}
 use native.Mathlib.Omega.{arith}
-use borrow.Author.Tests.{le-leb, lt-leb, lt-ltb, le-ltb, leb-true}
-use lib.Dec.{leb}
+use borrow.Author.Tests.{le-leb, lt-leb, lt-ltb, le-ltb, leb-true, ltb-true, ltb-false}
+use lib.Dec.{leb, ltb}
 use lib.ListN.{length, drop, get_or, drop_of_length-le}
 use lib.Seq.{drop-cons}
+use Rattle.std.specs.Prelude.{Option, Some, None}
 use Rattle.rules.specs.Lists.{every}
 use Rattle.rules.proofs.Records.{and_right}
-use Rattle.script.specs.Digits.{digit, in_base, value_after, number_after, number_of}
-use Rattle.script.specs.declared.numbers.Number.{Number}
+use Rattle.script.specs.Digits.{digit, digit_of, in_base, value_after, number_after, number_of}
 
 -- values only grow
 value_grows : (base n : ℕ) (xs : List ℕ) → 0 < base → n ≤ value_after base n xs
@@ -29,7 +29,22 @@ pub and_false : (a : Bool) → a && false ≡ false
 and_false true = refl
 and_false false = refl
 
-pub empty : (base most : ℕ) (w : List ℕ) → length w ≡ 0 → number_of base most w ≡ Number.Bad
+-- what is learnt of a byte by its value
+pub digit_value : (x d : ℕ) → digit_of x ≡ Some d → (digit x ≡ d) × (d < 16)
+digit_value x d e = go (ltb (digit x) 16) refl e
+  where
+    go : (t : Bool) → ltb (digit x) 16 ≡ t → cond t (Some (digit x)) None ≡ Some d → (digit x ≡ d) × (d < 16)
+    go true k h = let v : digit x ≡ d = cc in (v, let b = ltb-true _ _ k in omega arith)
+    go false k h = cc
+
+digit_none : (x : ℕ) → digit_of x ≡ None → 16 ≤ digit x
+digit_none x e = go (ltb (digit x) 16) refl e
+  where
+    go : (t : Bool) → ltb (digit x) 16 ≡ t → cond t (Some (digit x)) None ≡ None → 16 ≤ digit x
+    go true k h = cc
+    go false k h = ltb-false _ _ k
+
+pub empty : (base most : ℕ) (w : List ℕ) → length w ≡ 0 → number_of base most w ≡ None
 unfolding number_of
 empty base most [] h = refl
 empty base most (x ∷ xs) h = absurd (suc-ne-zero _ h)
@@ -41,44 +56,43 @@ started base most (x ∷ xs) h = refl
 
 module _ (base most : ℕ) (w : List ℕ) where
   -- what the digits from i on say after n
-  abbrev pub left : ℕ → ℕ → Number
+  abbrev pub left : ℕ → ℕ → Option ℕ
   left n i = number_after base most n (drop i w)
 
   -- one digit more
-  pub more : (n i : ℕ) → i < length w → digit (get_or w i 0) < base → left n i ≡ left (n * base + digit (get_or w i 0)) (i + 1)
+  pub more : (n i d : ℕ) → i < length w → digit_of (get_or w i 0) ≡ Some d → d < base → left n i ≡ left (n * base + d) (i + 1)
   unfolding number_after value_after every
-  more n i h d = rw (add-one, drop-cons w i 0 h) (simp (lt-ltb _ _ d))
+  more n i d h e k = let v = digit_value (get_or w i 0) d e in rw (add-one, drop-cons w i 0 h, sym v.0) (simp (lt-ltb (digit (get_or w i 0)) base (omega arith)))
 
-  pub not_digit : (n i : ℕ) → i < length w → base ≤ digit (get_or w i 0) → left n i ≡ Number.Bad
+  -- no digit
+  pub no_digit : (n i : ℕ) → i < length w → base ≤ 16 → digit_of (get_or w i 0) ≡ None → left n i ≡ None
   unfolding number_after every
-  not_digit n i h d = rw (drop-cons w i 0 h) (simp (le-ltb _ _ d))
+  no_digit n i h b e = let v = digit_none (get_or w i 0) e in rw (drop-cons w i 0 h) (simp (le-ltb (digit (get_or w i 0)) base (omega arith)))
 
-  pub over : (n i : ℕ) → 0 < base → most < n → left n i ≡ Number.Bad
+  -- a digit of a larger base
+  pub not_in_base : (n i d : ℕ) → i < length w → digit_of (get_or w i 0) ≡ Some d → base ≤ d → left n i ≡ None
+  unfolding number_after every
+  not_in_base n i d h e k = let v = digit_value (get_or w i 0) d e in rw (drop-cons w i 0 h) (simp (le-ltb (digit (get_or w i 0)) base (omega arith)))
+
+  pub over : (n i : ℕ) → 0 < base → most < n → left n i ≡ None
   unfolding number_after
   over n i b h =
       let g = value_grows base n (drop i w) b in
       simp (lt-leb (value_after base n (drop i w)) most (omega arith), and_false)
 
-  pub ended : (n i : ℕ) → length w ≤ i → n ≤ most → left n i ≡ Number.Is n
+  pub ended : (n i : ℕ) → length w ≤ i → n ≤ most → left n i ≡ Some n
   unfolding number_after every value_after
   ended n i h m = rw (drop_of_length-le w {i = i} h) (simp (le-leb _ _ m))
 
--- the test for the bound: n * base + d is above it just where n is above (most - d) / base
-pub within : (base most n d : ℕ) → 0 < base → d ≤ most → n ≤ (most - d) / base → n * base + d ≤ most
-within base most n d b h k = let g : n * base ≤ most - d = (le-div_iff_mul-le b).0 k in omega arith
-
-pub beyond : (base most n d : ℕ) → 0 < base → d ≤ most → (most - d) / base < n → most < n * base + d
-beyond base most n d b h k = let g : most - d < n * base = (div-lt_iff_lt-mul b).0 k in omega arith
-
 -- a number that a word says is within the bound
-pub at_most : (base most : ℕ) (w : List ℕ) (h : ℕ) → number_of base most w ≡ Number.Is h → h ≤ most
+pub at_most : (base most : ℕ) (w : List ℕ) (h : ℕ) → number_of base most w ≡ Some h → h ≤ most
 unfolding number_of number_after
-at_most base most [] h e = let z : ◌≡◌ {A = ℕ} 0 1 = cc in absurd (omega arith)
+at_most base most [] h e = cc
 at_most base most (x ∷ xs) h e = go (every (in_base base) (x ∷ xs) && leb (value_after base 0 (x ∷ xs)) most) refl e
   where
-    go : (t : Bool) → every (in_base base) (x ∷ xs) && leb (value_after base 0 (x ∷ xs)) most ≡ t → cond t (Number.Is (value_after base 0 (x ∷ xs))) Number.Bad ≡ Number.Is h → h ≤ most
+    go : (t : Bool) → every (in_base base) (x ∷ xs) && leb (value_after base 0 (x ∷ xs)) most ≡ t → cond t (Some (value_after base 0 (x ∷ xs))) None ≡ Some h → h ≤ most
     go true b k =
         let m = leb-true (value_after base 0 (x ∷ xs)) most (and_right (every (in_base base) (x ∷ xs)) _ b) in
         let z : value_after base 0 (x ∷ xs) ≡ h = cc in
         omega arith
-    go false b k = let z : ◌≡◌ {A = ℕ} 0 1 = cc in absurd (omega arith)
+    go false b k = cc

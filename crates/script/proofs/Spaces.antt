@@ -1,31 +1,58 @@
--- Laws of words: a loop that passes over what is no space ends at the word's end. Assumes nothing.
-use mathlib.Core.Path.{◌≡◌, refl}
-use mathlib.Core.List.{List}
-use Prim.Native.Nat.{ℕ, ◌+◌, ◌≤◌, ◌<◌}
-use native.Mathlib.Nat.{add-suc, suc-add, add-zero}
-use native.Mathlib.Numerals.{add-one}
-use borrow.Author.Tests.{lt-ltb, le-ltb, eq-eqb, ne_eqb}
-use lib.ListN.{length, drop, get_or, drop_of_length-le}
-use lib.Seq.{drop-cons}
+-- Laws of words. Assumes nothing.
+use mathlib.Core.Path.{◌≡◌, refl, ap, sym, ◌∙◌}
+use mathlib.Core.Bool.{Bool, true, false, not, cond}
+use mathlib.Core.List.{List, [], ◌∷◌}
+use Prim.Native.Nat.{ℕ, ◌+◌}
+use native.Mathlib.Omega.{arith}
+use borrow.Author.Tests.{ltb-true, ltb-false}
+use lib.Dec.{eqb, ltb}
+use lib.ListN.{length, drop, drop_of_length-le}
+use Rattle.std.specs.Prelude.{Some, None, position, min}
+use Rattle.std.specs.Option.{unwrap_or}
+use Rattle.std.specs.List.{position_or_len}
+use Rattle.std.specs.declared.ops.Range.{Range}
+use Rattle.std.proofs.lemmas.List.Recursion.{is_position_or_len}
+use Rattle.std.proofs.lemmas.List.Sums.{prefix_len-le-length}
 use Rattle.script.specs.Words.{index_of, word_from}
 
--- one byte that is no space
-pub passed : (x i : ℕ) (w : List ℕ) → i < length w → (get_or w i 0 ≡ x → ⊥) → i + 1 + index_of x (drop (i + 1) w) ≡ i + index_of x (drop i w)
+none : (x : ℕ) → index_of x [] ≡ 0
 unfolding index_of
-passed x i w h ne = rw (add-one, drop-cons w i 0 h) (simp (ne_eqb _ _ ne, add-suc, suc-add) refl)
+none x = refl
 
-pub at_space : (x i : ℕ) (w : List ℕ) → i < length w → get_or w i 0 ≡ x → i + index_of x (drop i w) ≡ i
+one : (x y : ℕ) (ys : List ℕ) → index_of x (y ∷ ys) ≡ cond (eqb y x) 0 (1 + index_of x ys)
 unfolding index_of
-at_space x i w h e = rw (drop-cons w i 0 h) (simp (eq-eqb _ _ e, add-zero))
+one x y ys = ap (cond (eqb y x) 0) (omega arith)
 
-pub at_end : (x i : ℕ) (w : List ℕ) → length w ≤ i → i + index_of x (drop i w) ≡ i
-unfolding index_of
-at_end x i w h = rw (drop_of_length-le w {i = i} h, add-zero) refl
+-- where the first x stands, in the library's words
+index_of_position : (x : ℕ) (xs : List ℕ) → unwrap_or (position (λ y. eqb y x) xs) (length xs) ≡ index_of x xs
+index_of_position x xs = sym (is_position_or_len (index_of x) (λ y. eqb y x) (none x) (one x) xs ∙ go (ltb n (length xs)) refl)
+  where
+    n : ℕ
+    n = position_or_len (λ y. eqb y x) xs
 
-pub past_end : (w : List ℕ) (at : ℕ) → length w < at → record { from = length w; to = length w } ≡ word_from w at
+    go : (t : Bool) → ltb n (length xs) ≡ t → n ≡ unwrap_or (cond t (Some n) None) (length xs)
+    go true h = refl
+    go false h = let a = ltb-false _ _ h in let b = prefix_len-le-length (λ y. not (eqb y x)) xs in omega arith
+
+-- the word at `at`, which is cut to the line
+pub word_there : (line : List ℕ) (at start size : ℕ) → start ≡ min at (length line) → size ≡ unwrap_or (position (λ y. eqb y 32) (drop start line)) (length (drop start line))
+    → ◌≡◌ {A = Range ℕ} (record { start = start; end = start + size }) (word_from line at)
 unfolding word_from
-past_end w at h = simp (lt-ltb _ _ h)
+word_there line at start size e f = go (ltb (length line) at) refl
+  where
+    found : size ≡ index_of 32 (drop start line)
+    found = f ∙ index_of_position 32 (drop start line)
 
-pub up_to : (w : List ℕ) (at to : ℕ) → at ≤ length w → to ≡ at + index_of 32 (drop at w) → record { from = at; to = to } ≡ word_from w at
-unfolding word_from
-up_to w at to h e = simp (le-ltb _ _ h, e)
+    go : (t : Bool) → ltb (length line) at ≡ t
+        → ◌≡◌ {A = Range ℕ} (record { start = start; end = start + size }) (cond t (record { start = length line; end = length line }) (record { start = at; end = at + index_of 32 (drop at line) }))
+    go true h =
+        let past = ltb-true _ _ h in
+        let s : start ≡ length line = omega arith in
+        let n : size ≡ 0 = found ∙ rw (s, drop_of_length-le line {i = length line} (omega arith)) (none 32) in
+        let t : start + size ≡ length line = omega arith in
+        cc
+    go false h =
+        let within = ltb-false _ _ h in
+        let s : start ≡ at = omega arith in
+        let t : start + size ≡ at + index_of 32 (drop at line) = rw (found, s) refl in
+        cc

@@ -1,22 +1,33 @@
 -- Adler-32. Assumes nothing.
-use Rattle.std.specs.Prelude.{ℕ, ◌+◌, ◌*◌, ◌%◌, List, [], ◌∷◌, ◌++◌, Float}
+use Rattle.std.specs.Prelude.{ℕ, ◌+◌, ◌*◌, ◌%◌, List, [], ◌∷◌, ◌++◌, fold, Float}
 use Rattle.std.specs.Float.{binary64}
 use Rattle.std.specs.Float.Ieee.{to_bits}
 use Rattle.rules.specs.Bytes.{bytes}
-use Rattle.script.specs.declared.sums.Sum.{Sum}
+
+-- the two parts of a sum on the way
+pub record Parts : Type 0 where
+  pub a : ℕ
+  pub b : ℕ
+
+-- no byte yet
+abbrev pub begun : Parts
+begun = record { a = 1; b = 0 }
 
 -- one byte more
-unfoldable pub step : Sum → ℕ → Sum
+unfoldable pub step : Parts → ℕ → Parts
 step s x = record { a = (s.a + x) % 65521; b = (s.b + (s.a + x) % 65521) % 65521 }
 
 -- the bytes, one after the other
-unfoldable pub adler : Sum → List ℕ → Sum
-adler s [] = s
-adler s (x ∷ xs) = adler (step s x) xs
+abbrev pub adler : Parts → List ℕ → Parts
+adler = fold step
+
+-- a sum as one number
+abbrev pub total : Parts → ℕ
+total s = s.b * 65536 + s.a
 
 -- the sum of bytes
 unfoldable pub adler32 : List ℕ → ℕ
-adler32 xs = (adler (record { a = 1; b = 0 }) xs).b * 65536 + (adler (record { a = 1; b = 0 }) xs).a
+adler32 xs = total (adler begun xs)
 
 -- doubles as eight bytes each, the lowest first; `to_bits` gives a NaN the pattern 7ff8000000000000
 unfoldable pub doubles : List Float → List ℕ

@@ -1,63 +1,37 @@
 // Numbers in decimal and hexadecimal digits.
 ghost use Rattle.std.specs.Prelude.{◌≡◌, ◌≤◌, ◌<◌};
-ghost use Rattle.script.specs.Digits.{digit, number_of};
+ghost use Rattle.script.specs.Digits.{digit_of, number_of};
 
-// A number, if a word is one.
-#[derive(Clone, Copy)]
-pub enum Number {
-    Is(u64),
-    Bad,
-}
-
-// The value of a digit, or 16 for any other byte.
-pub(crate) fn digit(x: u8) -> u8
-    ensures { (result ≡ digit x) × (result ≤ 16) }
+// The value of a digit; a capital letter is none.
+#[tactic(auto, unfolding(crate::specs::Digits::digit))]
+pub(crate) fn digit(x: u8) -> Option<u8>
+    ensures { result ≡ digit_of x }
 {
-    if x < 48 {
-        return 16;
+    match x {
+        b'0'..=b'9' => Some(x - b'0'),
+        b'a'..=b'f' => Some(x - b'a' + 10),
+        _ => None,
     }
-    if x <= 57 {
-        return x - 48;
-    }
-    if x < 97 {
-        return 16;
-    }
-    if x <= 102 {
-        return x - 87;
-    }
-    16
-}
-
-// A byte as a number of 64 bits.
-fn wide(x: u8) -> u64
-    ensures { result ≡ x }
-{
-    x as u64
 }
 
 // The number that the word's digits say in that base, at most `most`.
-pub fn number_in(word: &[u8], base: u64, most: u64) -> Number
+pub fn number_in(word: &[u8], base: u64, most: u64) -> Option<u64>
     requires { (0 < base) × (base ≤ 16) }
     ensures { result ≡ number_of base most word.now }
 {
-    if word.len() == 0 {
-        return Number::Bad;
+    if word.is_empty() {
+        return None;
     }
     let mut n: u64 = 0;
-    let mut i = 0;
-    while i < word.len() {
-        let d = wide(digit(word[i]));
+    for &x in word {
+        let d = digit(x)? as u64;
         if base <= d {
-            return Number::Bad;
+            return None;
         }
-        if most < d {
-            return Number::Bad;
+        n = n.checked_mul(base)?.checked_add(d)?;
+        if most < n {
+            return None;
         }
-        if (most - d) / base < n {
-            return Number::Bad;
-        }
-        n = n * base + d;
-        i += 1;
     }
-    Number::Is(n)
+    Some(n)
 }

@@ -8,10 +8,6 @@ use Rattle.desk.specs.Desk.{silent, in_pending, on_memory, operation_does}
 use Rattle.desk.proofs.Rows.{by, blocks, reads, others}
 use Rattle.desk.proofs.change.Goals as goal
 
-pub returns-in-Unfit : goal.returns-in-Unfit
-unfolding operation_does
-returns-in-Unfit c = by _ _ _ _ _ _ Operation.Unfit _ c.in-Unfit.is (both _ _ _ _ c.silent.ensures refl)
-
 pub returns-in-State : goal.returns-in-State
 unfolding operation_does
 returns-in-State c = by _ _ _ _ _ _ Operation.State _ c.in-State.is (both _ _ _ _ (c.silent-in-State.ensures ∙ ap (silent true) c.state_in.ensures) refl)
@@ -36,4 +32,4 @@ returns-in-Read c = c.read.ensures ∙ sym (reads _ _ _ _ _ _ c.in-Read.is)
 
 pub returns-in_default : goal.returns-in_default
 returns-in_default c =
-    both _ _ _ _ c.silent-in_default.ensures refl ∙ ap (on_memory c.args.state) c.lay.ensures ∙ sym (others _ _ _ _ _ _ c.in_default.not-Unfit c.in_default.not-State c.in_default.not-Start c.in_default.not-Enter c.in_default.not-Leave c.in_default.not-Block c.in_default.not-BlockRaw c.in_default.not-Read c.in_default.not-Again)
+    both _ _ _ _ c.silent-in_default.ensures refl ∙ ap (on_memory c.args.state) c.lay.ensures ∙ sym (others _ _ _ _ _ _ c.in_default.not-State c.in_default.not-Start c.in_default.not-Enter c.in_default.not-Leave c.in_default.not-Block c.in_default.not-BlockRaw c.in_default.not-Read c.in_default.not-Again)

@@ -1,12 +1,10 @@
 -- `gathers::gathers::decode` meets its contract.
 -- Assumes nothing.
+use mathlib.Core.Path.{ap, ◌∙◌}
+use Rattle.print.specs.Page.{page}
 use Rattle.gathers.proofs.Gathering.{said}
 use Rattle.gathers.proofs.gathers.decode.Goals as goal
 
-pub returns-in-Bytes : goal.returns-in-Bytes
-returns-in-Bytes c =
-    said c.args.text.now c.args.at c.args.buffer.now c.hex_into-put.new.out c.word_at-w.result c.hex_into-put.result _ c.word_at-w.ensures.value c.hex_into-put.ensures c.in-Bytes.is
-
-pub returns-in-Bad : goal.returns-in-Bad
-returns-in-Bad c =
-    said c.args.text.now c.args.at c.args.buffer.now c.hex_into-put.new.out c.word_at-w.result c.hex_into-put.result _ c.word_at-w.ensures.value c.hex_into-put.ensures c.in-Bad.is
+pub returns : goal.returns
+returns c =
+    ap (page c.hex_into.new.out) c.unwrap_or.ensures ∙ said c.args.text.now c.args.at c.args.buffer.now c.hex_into.new.out c.word_at-word.result c.hex_into.result c.word_at-word.ensures.value c.hex_into.ensures

@@ -2,29 +2,27 @@
 -- Assumes nothing.
 use mathlib.Core.Path.{◌≡◌, sym, ◌∙◌}
 use native.Mathlib.Omega.{arith}
+use Rattle.std.specs.Prelude.{Some}
 use Rattle.script.specs.Digits.{number_of}
-use Rattle.script.specs.declared.numbers.Number.{Number}
 use Rattle.script.proofs.Reading.{at_most}
 use Rattle.page.specs.Page.{most_short}
 use Rattle.lines.specs.Lines.{last_of}
 use Rattle.lines.proofs.lines.last_in.Goals as goal
-use Rattle.lines.proofs.lines.last_in.Goals.{In-Is}
-
--- what the word says as a number
-number : (c : In-Is) → number_of 10 most_short c.args.word.now ≡ Number.Is c.in-Is.h
-number c = sym c.number_in-n.ensures ∙ c.in-Is.is
 
 pub returns-then-is : goal.returns-then-is
 unfolding last_of
 returns-then-is c = rw (sym c.is.ensures ∙ c.if-is.true)
 
-pub returns-in-Is : goal.returns-in-Is
+pub returns-in_err-height : goal.returns-in_err-height
 unfolding last_of
-returns-in-Is c = rw (sym c.is.ensures ∙ c.if-is.false, number (goal.at.returns-in-Is c).In-Is)
-
-pub returns-in-Bad : goal.returns-in-Bad
-unfolding last_of
-returns-in-Bad c = rw (sym c.is.ensures ∙ c.if-is.false, sym c.number_in-n.ensures ∙ c.in-Bad.is)
+returns-in_err-height c = rw (sym c.is.ensures ∙ c.if-is.false, sym c.number_in.ensures ∙ c.in_err-height.was) c.from_residual.ensures
 
 pub overflow_add-result : goal.overflow_add-result
-overflow_add-result c = let b = at_most 10 most_short _ _ (number (goal.at.overflow_add-result c).In-Is) in omega arith
+overflow_add-result c =
+    let e : number_of 10 most_short c.args.word.now ≡ Some c.in_ok-height.height = sym c.number_in.ensures ∙ c.in_ok-height.was in
+    let b = at_most 10 most_short _ _ e in
+    omega arith
+
+pub returns : goal.returns
+unfolding last_of
+returns c = rw (sym c.is.ensures ∙ c.if-is.false, sym c.number_in.ensures ∙ c.in_ok-height.was)

@@ -1,41 +1,38 @@
 -- `lines::lines::with_fields` meets its contract.
 -- Assumes nothing.
-use mathlib.Core.Path.{◌≡◌, sym, ◌∙◌}
-use mathlib.Core.Bool.{◌&&◌, cond}
-use mathlib.Core.List.{List}
-use Prim.Native.Nat.{ℕ}
+use mathlib.Core.Path.{sym, ◌∙◌}
 use native.Mathlib.Omega.{arith}
 use borrow.Author.Tests.{le-ltb, lt-ltb}
-use lib.Dec.{ltb}
 use lib.ListN.{length}
-use Rattle.lines.specs.Lines.{bare, with_fields}
-use Rattle.page.specs.declared.page.Operation.{Operation}
-use Rattle.lines.proofs.Taking.{taken}
+use Rattle.lines.specs.Lines.{with_fields}
 use Rattle.lines.proofs.lines.with_fields.Goals as goal
-use Rattle.lines.proofs.lines.with_fields.Goals.{After-take-d}
 
--- the bytes of the line
-abbrev bytes-in : After-take-d → List ℕ
-bytes-in c = c.args.line.now
+pub returns-in_err-a : goal.returns-in_err-a
+unfolding with_fields
+returns-in_err-a c =
+    rw (sym c.fields_of-fields.ensures, sym c.take.ensures ∙ c.in_err-a.was) c.from_residual.ensures
 
--- what the four fields say together
-whole : (c : After-take-d) →
-    with_fields c.args.on (bytes-in c) c.args.operation c.args.at
-    ≡ cond (ltb (length (bytes-in c)) c.take-d.result.at && c.take-d.result.fits)
-    (record { operation = c.args.operation; a = c.take-a.result.value; b = c.take-b.result.value; c = c.take-c.result.value; d = c.take-d.result.value })
-    (bare Operation.Unfit)
-whole c =
-    taken c.args.on (bytes-in c) c.args.operation c.args.at c.fields_of-fields.result c.take-a.result c.take-b.result c.take-c.result c.take-d.result
-    c.fields_of-fields.ensures c.take-a.ensures c.take-b.ensures c.take-c.ensures c.take-d.ensures
+pub returns-in_err-b : goal.returns-in_err-b
+unfolding with_fields
+returns-in_err-b c =
+    rw (sym c.fields_of-fields.ensures, sym c.take.ensures ∙ c.in_ok-a.was, sym c.take-2.ensures ∙ c.in_err-b.was) c.from_residual-in_err-b.ensures
+
+pub returns-in_err-c : goal.returns-in_err-c
+unfolding with_fields
+returns-in_err-c c =
+    rw (sym c.fields_of-fields.ensures, sym c.take.ensures ∙ c.in_ok-a.was, sym c.take-2.ensures ∙ c.in_ok-b.was, sym c.take-3.ensures ∙ c.in_err-c.was) c.from_residual-in_err-c.ensures
+
+pub returns-in_err-d : goal.returns-in_err-d
+unfolding with_fields
+returns-in_err-d c =
+    rw (sym c.fields_of-fields.ensures, sym c.take.ensures ∙ c.in_ok-a.was, sym c.take-2.ensures ∙ c.in_ok-b.was, sym c.take-3.ensures ∙ c.in_ok-c.was, sym c.take-4.ensures ∙ c.in_err-d.was) c.from_residual-in_err-d.ensures
 
 pub returns-then-d-line : goal.returns-then-d-line
+unfolding with_fields
 returns-then-d-line c =
-    c.bare.ensures ∙ sym (whole (goal.at.returns-then-d-line c).After-take-d ∙ simp (le-ltb (length (bytes-in (goal.at.returns-then-d-line c).After-take-d)) c.take-d.result.at (omega (arith, c.if-d-line.true))))
-
-pub returns-then-d : goal.returns-then-d
-returns-then-d c =
-    sym (whole (goal.at.returns-then-d c).After-take-d ∙ simp (lt-ltb (length (bytes-in (goal.at.returns-then-d c).After-take-d)) c.take-d.result.at (omega (arith, c.if-d-line.false)), c.if-d.true))
+    rw (sym c.fields_of-fields.ensures, sym c.take.ensures ∙ c.in_ok-a.was, sym c.take-2.ensures ∙ c.in_ok-b.was, sym c.take-3.ensures ∙ c.in_ok-c.was, sym c.take-4.ensures ∙ c.in_ok-d.was, le-ltb (length c.args.line.now) c.in_ok-d.d.at (omega (arith, c.if-d-line.true)))
 
 pub returns : goal.returns
+unfolding with_fields
 returns c =
-    c.bare-2.ensures ∙ sym (whole (goal.at.returns c).After-take-d ∙ simp (lt-ltb (length (bytes-in (goal.at.returns c).After-take-d)) c.take-d.result.at (omega (arith, c.if-d-line.false)), c.if-d.false))
+    rw (sym c.fields_of-fields.ensures, sym c.take.ensures ∙ c.in_ok-a.was, sym c.take-2.ensures ∙ c.in_ok-b.was, sym c.take-3.ensures ∙ c.in_ok-c.was, sym c.take-4.ensures ∙ c.in_ok-d.was, lt-ltb (length c.args.line.now) c.in_ok-d.d.at (omega arith))

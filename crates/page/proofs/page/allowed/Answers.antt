@@ -1,14 +1,13 @@
 -- `page::page::allowed` meets its contract.
 -- Assumes nothing.
-use mathlib.Core.Path.{ap, ◌∙◌}
-use Rattle.page.specs.Page.{found, openings, allowed}
+use Rattle.page.specs.Page.{found, allowed, operation_of}
+use Rattle.page.proofs.Naming.{option_map-cond, option_or-None}
 use Rattle.page.proofs.page.allowed.Goals as goal
 
 pub returns-then-begun : goal.returns-then-begun
-unfolding allowed
-returns-then-begun c =
-    rw c.if-begun.true (c.opening.ensures ∙ ap (found openings c.args.word.now) c.operation_of.ensures)
+unfolding found allowed operation_of
+returns-then-begun c = rw (c.if-begun.true, c.or.ensures, c.found-opening.ensures, c.found.ensures) (simp option_map-cond)
 
 pub returns : goal.returns
-unfolding allowed
-returns c = rw c.if-begun.false c.opening-2.ensures
+unfolding found allowed
+returns c = rw (c.if-begun.false, option_or-None, c.found-opening.ensures) (simp option_map-cond)

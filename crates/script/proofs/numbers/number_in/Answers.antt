@@ -1,54 +1,59 @@
 use mathlib.Core.Path.{◌≡◌, sym, ap, ◌∙◌}
-use Prim.Native.Nat.{ℕ, ◌+◌, ◌*◌, ◌≤◌, ◌<◌}
+use Prim.Native.Nat.{ℕ, ◌+◌, ◌*◌, ◌≤◌}
 use native.Mathlib.Omega.{arith}
-use lib.ListN.{get_or}
-use Rattle.script.specs.Digits.{digit, number_of}
-use Rattle.script.proofs.Reading.{left, empty, started, more, not_digit, over, ended, within, beyond}
+use borrow.Author.Tests.{eqb-true, eqb-false}
+use Rattle.script.specs.Digits.{number_of}
+use Rattle.script.proofs.Reading.{left, empty, started, more, no_digit, not_in_base, over, ended}
 use Rattle.script.proofs.numbers.number_in.Goals as goal
-use Rattle.script.proofs.numbers.number_in.Goals.{After-wide-d, Else-most-d-2}
-
--- what `digit` answered is the value of the digit at i
-value : (c : After-wide-d)
-    → c.wide-d.result ≡ digit (get_or c.args.word.now c.loop-i.i 0)
-value c = c.wide-d.ensures ∙ c.digit.ensures.0
+use Rattle.script.proofs.numbers.number_in.Goals.{Else-base-d}
 
 -- one digit more
-next : (c : After-wide-d) →
-    c.wide-d.result < c.args.base → number_of c.args.base c.args.most c.args.word.now ≡ left c.args.base c.args.most c.args.word.now (c.loop-i.n * c.args.base + c.wide-d.result) (c.loop-i.i + 1)
-next c h =
-    let e = value c in
-    c.loop-i.invariant.1.1 ∙ more c.args.base c.args.most c.args.word.now c.loop-i.n c.loop-i.i (omega arith) (omega arith)
-    ∙ ap (λ (d : ℕ). left c.args.base c.args.most c.args.word.now (c.loop-i.n * c.args.base + d) (c.loop-i.i + 1)) (sym e)
+next : (c : Else-base-d) →
+    number_of c.args.base c.args.most c.args.word.now
+    ≡ left c.args.base c.args.most c.args.word.now (c.loop-x.n * c.args.base + c.in_ok-d.field-0) (c.loop-x.x-index + 1)
+next c =
+    c.loop-x.invariant.whole ∙ more c.args.base c.args.most c.args.word.now c.loop-x.n c.loop-x.x-index c.in_ok-d.field-0 (omega arith) (sym c.digit.ensures ∙ c.in_ok-d.was) (omega arith)
 
-fits : (c : Else-most-d-2) →
-    c.loop-i.n * c.args.base + c.wide-d.result ≤ c.args.most
-fits c =
-    within c.args.base c.args.most c.loop-i.n c.wide-d.result (omega arith) (omega arith) c.if-most-d-2.false
+pub returns-then-is_empty : goal.returns-then-is_empty
+returns-then-is_empty c = sym (empty c.args.base c.args.most c.args.word.now (eqb-true _ _ (sym c.is_empty.ensures ∙ c.if-is_empty.true)))
 
-pub returns-then-word-eq0 : goal.returns-then-word-eq0
-returns-then-word-eq0 c = sym (empty c.args.base c.args.most c.args.word.now c.if-word-eq0.true)
+pub loop-x-init : goal.loop-x-init
+loop-x-init c = record {
+  within = omega arith;
+  whole = started c.args.base c.args.most c.args.word.now (eqb-false _ _ (sym c.is_empty.ensures ∙ c.if-is_empty.false));
+}
 
-pub loop-i-init : goal.loop-i-init
-loop-i-init c = (omega arith, (omega arith, started c.args.base c.args.most c.args.word.now c.if-word-eq0.false))
+pub returns-in_err-d : goal.returns-in_err-d
+returns-in_err-d c =
+    c.from_residual.ensures ∙ sym (c.loop-x.invariant.whole ∙ no_digit c.args.base c.args.most c.args.word.now c.loop-x.n c.loop-x.x-index (omega arith) (omega arith) (sym c.digit.ensures ∙ c.in_err-d.was))
 
 pub returns-then-base-d : goal.returns-then-base-d
 returns-then-base-d c =
-    let e = value (goal.at.returns-then-base-d c).After-wide-d in
-    sym (c.loop-i.invariant.1.1 ∙ not_digit c.args.base c.args.most c.args.word.now c.loop-i.n c.loop-i.i (omega arith) (omega arith))
+    sym (c.loop-x.invariant.whole ∙ not_in_base c.args.base c.args.most c.args.word.now c.loop-x.n c.loop-x.x-index c.in_ok-d.field-0 (omega arith) (sym c.digit.ensures ∙ c.in_ok-d.was) (omega arith))
 
-pub returns-then-most-d : goal.returns-then-most-d
-returns-then-most-d c =
-    let e = value (goal.at.returns-then-most-d c).After-wide-d in
-    sym (next (goal.at.returns-then-most-d c).After-wide-d c.if-base-d.false ∙ over c.args.base c.args.most c.args.word.now _ (c.loop-i.i + 1) (omega arith) (omega arith))
+pub returns-in_err-checked_mul : goal.returns-in_err-checked_mul
+returns-in_err-checked_mul c =
+    let large : 18446744073709551616 ≤ c.loop-x.n * c.args.base = omega (arith, c.in_err-checked_mul.ensures) in
+    c.from_residual-in_err-checked_mul.ensures ∙ sym (next (goal.at.returns-in_err-checked_mul c).Else-base-d ∙ over c.args.base c.args.most c.args.word.now _ _ (omega arith) (omega arith))
 
-pub returns-then-most-d-2 : goal.returns-then-most-d-2
-returns-then-most-d-2 c =
-    let m = beyond c.args.base c.args.most c.loop-i.n c.wide-d.result (omega arith) (omega arith) c.if-most-d-2.true in
-    sym (next (goal.at.returns-then-most-d-2 c).After-wide-d c.if-base-d.false ∙ over c.args.base c.args.most c.args.word.now _ (c.loop-i.i + 1) (omega arith) m)
+pub returns-in_err-n : goal.returns-in_err-n
+returns-in_err-n c =
+    let e = c.in_ok-checked_mul.ensures in
+    let large : 18446744073709551616 ≤ c.loop-x.n * c.args.base + c.in_ok-d.field-0 = omega (arith, c.in_err-n.ensures) in
+    c.from_residual-in_err-n.ensures ∙ sym (next (goal.at.returns-in_err-n c).Else-base-d ∙ over c.args.base c.args.most c.args.word.now _ _ (omega arith) (omega arith))
 
-pub loop-i-preserved : goal.loop-i-preserved
-loop-i-preserved c = (omega arith, (fits (goal.at.loop-i-preserved c).Else-most-d-2, next (goal.at.loop-i-preserved c).After-wide-d c.if-base-d.false))
+pub returns-then-most-n : goal.returns-then-most-n
+returns-then-most-n c =
+    let e = c.in_ok-n.ensures in
+    let f = c.in_ok-checked_mul.ensures in
+    sym (next (goal.at.returns-then-most-n c).Else-base-d ∙ over c.args.base c.args.most c.args.word.now _ _ (omega arith) (omega arith))
+
+pub loop-x-preserved : goal.loop-x-preserved
+loop-x-preserved c = record {
+  within = omega arith;
+  whole = next (goal.at.loop-x-preserved c).Else-base-d ∙ ap (λ (n : ℕ). left c.args.base c.args.most c.args.word.now n (c.loop-x.x-index + 1)) (let e = c.in_ok-n.ensures in let f = c.in_ok-checked_mul.ensures in omega arith);
+}
 
 pub returns : goal.returns
 returns c =
-    sym (c.loop-i.invariant.1.1 ∙ ended c.args.base c.args.most c.args.word.now c.loop-i.n c.loop-i.i (omega arith) (omega arith))
+    sym (c.loop-x.invariant.whole ∙ ended c.args.base c.args.most c.args.word.now c.loop-x.n c.loop-x.x-index (omega arith) (omega arith))
