@@ -6,22 +6,18 @@ ghost use Rattle.std.specs.Prelude.{◌≡◌};
 ghost use Rattle.inspect.specs.Words.{chain_of};
 
 use kinds::Height;
-use premise::Chain;
-use script::numbers::{Number, number_in};
+use script::numbers::number_in;
 use std::env::FillError;
 use std::io;
 use std::rt::Env;
 
-// The chain's height that a word says, of 32 bits; untold where it says none.
-#[tactic(auto, unfolding(crate::specs::Words::chain_at, crate::specs::Words::chain_of))]
-fn chain_of(word: &[u8]) -> Chain
+// The chain's height that a word says, of 32 bits.
+#[tactic(auto, unfolding(crate::specs::Words::chain_of))]
+fn chain_of(word: &[u8]) -> Option<Height>
     ensures { result ≡ chain_of word.now }
 {
-    let number = number_in(word, 10, 4294967295);
-    let Number::Is(n) = number else {
-        return Chain::Untold;
-    };
-    Chain::Tip(Height(n as u32))
+    let n = number_in(word, 10, u32::MAX as u64)?;
+    Some(Height(n as u32))
 }
 
 // Whether there is a word of that number; the program's name is number 0.
@@ -46,16 +42,14 @@ fn names_chain(rt: &impl Env) -> bool {
 }
 
 // The chain's height that the second word says.
-fn told_chain(rt: &impl Env) -> Chain {
+fn told_chain(rt: &impl Env) -> Option<Height> {
     let mut word = [0u8; 16];
-    let Ok(n) = rt.arg(2, &mut word) else {
-        return Chain::Untold;
-    };
+    let n = rt.arg(2, &mut word).ok()?;
     chain_of(&word[..n])
 }
 
 // Reads the file, and prints what it tells.
-fn inspect(rt: HostRuntime, chain: Chain) -> io::Result<()> {
+fn inspect(rt: HostRuntime, chain: Option<Height>) -> io::Result<()> {
     if !views::inspect(&mut rt.reader(), &rt, chain)? {
         eprintln!(rt; "inspect: the output is lost")?;
     }
@@ -70,14 +64,13 @@ fn refuse(rt: &impl Eprint) -> io::Result<()> {
 // No word, or `--chain` and a height.
 fn main(rt: HostRuntime) -> io::Result<()> {
     if !has_word(&rt, 1) {
-        return inspect(rt, Chain::Untold);
+        return inspect(rt, None);
     }
     if names_chain(&rt) {
         let chain = told_chain(&rt);
-        let Chain::Tip(height) = chain else {
-            return refuse(&rt);
-        };
-        return inspect(rt, Chain::Tip(height));
+        if chain.is_some() {
+            return inspect(rt, chain);
+        }
     }
     refuse(&rt)
 }

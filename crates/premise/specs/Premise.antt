@@ -1,12 +1,11 @@
 -- Whether a file goes with a chain, in plain words: the file's last height is at most the chain's and at most 4,096 below it. Only a block above the last height makes
 -- anything decay, expire or be pruned, and a block more than 4,096 above it is refused. Assumes nothing.
-use Rattle.std.specs.Prelude.{ℕ, ◌-◌, cond, List, [], ◌∷◌, ltb, None, Some}
+use Rattle.std.specs.Prelude.{ℕ, ◌-◌, cond, List, [], ◌∷◌, ltb, Option, None, Some}
+use Rattle.kinds.specs.declared.Height.{Height}
 use Rattle.kinds.specs.Last.{Last}
 use Rattle.rules.specs.Calls.{widest_gap}
 use Rattle.print.specs.Text.{Text, codes}
 use Rattle.print.specs.Numerals.{decimal}
-use Rattle.premise.specs.declared.Chain.{Chain}
-use Rattle.premise.specs.declared.Chain.TheVariants.{Untold, Tip}
 
 -- a sentence around two numbers, in pieces
 unfoldable pub between : Text → ℕ → Text → ℕ → Text → List Text
@@ -37,7 +36,7 @@ unfoldable pub no_last : List Text
 no_last = codes "premise holds: there is no last height, and the first block sets it\n" ∷ []
 
 -- what is said of a file's last height, where the chain's height is told
-unfoldable pub premise : Chain → Last → List Text
-premise Untold last = []
-premise (Tip n) None = no_last
-premise (Tip n) (Some h) = beside h.0 n.0
+unfoldable pub premise : Option Height → Last → List Text
+premise None last = []
+premise (Some n) None = no_last
+premise (Some n) (Some h) = beside h.0 n.0

@@ -9,13 +9,6 @@ ghost use Rattle.premise.specs.Premise.{between, beside, premise};
 use kinds::{Height, MAX_GAP};
 use print::{put, put_decimal};
 
-// The chain's height, where it is told.
-#[derive(Clone, Copy)]
-pub enum Chain {
-    Untold,
-    Tip(Height),
-}
-
 // A sentence around two heights.
 #[tactic(auto, unfolding(print::specs::Page::writes, crate::specs::Premise::between))]
 fn put_between(
@@ -77,10 +70,10 @@ fn put_beside(out: &mut [u8], at: usize, h: u32, n: u32) -> usize
 
 // What is said of a file with that last height; nothing where the chain's height is not told.
 #[tactic(auto, unfolding(crate::specs::Premise::premise, crate::specs::Premise::no_last, print::specs::Page::writes))]
-pub fn put_premise(out: &mut [u8], at: usize, chain: Chain, last: Option<Height>) -> usize
+pub fn put_premise(out: &mut [u8], at: usize, chain: Option<Height>, last: Option<Height>) -> usize
     ensures { page out.new result ≡ writes (premise chain last) (page out.old at) }
 {
-    let Chain::Tip(tip) = chain else {
+    let Some(tip) = chain else {
         return at;
     };
     let Some(height) = last else {

@@ -2,20 +2,42 @@
 ghost use Rattle.std.specs.Prelude.{◌≡◌, ◌*◌, ◌≤◌};
 ghost use Rattle.rules.specs.Board.{board_of};
 
-use crate::parts::{front, least};
+use crate::parts::front;
 use crate::says::{
     say, say_bucket, say_carrying, say_estimate, say_last, say_line, say_sum, say_target, say_text,
     say_wrote,
 };
 use boards::width_of;
-use desk_lays::fill;
 use estimator::{bucket_index_for_rate, estimate, to_history_bytes};
-use kinds::{Blocks, FeeRate, Horizon, MAX_CONF_TARGET, Refusal, State, WriteError};
+use kinds::{Blocks, Damaged, FeeRate, Horizon, MAX_CONF_TARGET, Refusal, State, WriteError};
 use lines::Line;
 use page::Operation;
 use print::put;
 use script::sums::{sum_bytes, sum_doubles};
 use std::io;
+
+// A board's estimator, as questions see it.
+#[derive(Clone, Copy)]
+pub(crate) struct Held<'a> {
+    pub(crate) state: State,
+    pub(crate) pending: &'a [u8],
+    pub(crate) recent: &'a [u8],
+    pub(crate) confirmed: &'a [f64],
+    pub(crate) resolved: &'a [f64],
+    pub(crate) on: Horizon,
+}
+
+impl<'a> Held<'a> {
+    fn estimate(self, target: Blocks) -> Result<Option<FeeRate>, Damaged> {
+        estimate(
+            self.state,
+            self.confirmed,
+            self.resolved,
+            target,
+            self.on,
+        )
+    }
+}
 
 // How many columns a board has.
 const COLUMNS: u32 = MAX_CONF_TARGET as u32;
@@ -29,78 +51,58 @@ fn target_of(column: u32, on: Horizon) -> Blocks
     Blocks(width.0 * column)
 }
 
-// The words for the targets of all columns, a space after each but the last.
-fn say_targets(
-    out: &impl Print,
-    state: State,
-    confirmed: &[f64],
-    resolved: &[f64],
-    on: Horizon,
-) -> io::Result<()> {
-    let mut column: u32 = 0;
-    while column < COLUMNS {
-        column += 1;
-        let target = target_of(column, on);
-        say_target(out, estimate(state, confirmed, resolved, target, on))?;
-        if column < COLUMNS {
+// The words for the targets of all columns, a space between them.
+fn say_targets(out: &impl Print, held: Held) -> io::Result<()> {
+    for column in 1..=COLUMNS {
+        if 1 < column {
             say_text(out, " ")?;
         }
+        say_target(out, held.estimate(target_of(column, held.on)))?;
     }
     say_text(out, "\n")
 }
 
 // estimates
-fn estimates(
-    out: &impl Print,
-    state: State,
-    confirmed: &[f64],
-    resolved: &[f64],
-    on: Horizon,
-) -> io::Result<()> {
-    let e = estimate(state, confirmed, resolved, Blocks(1), on);
+fn estimates(out: &impl Print, held: Held) -> io::Result<()> {
+    let e = held.estimate(Blocks(1));
     match e {
         Err(_) => say_estimate(out, e),
-        _ => say_targets(out, state, confirmed, resolved, on),
+        _ => say_targets(out, held),
     }
 }
 
 // sum
-fn sums(
-    out: &impl Print,
-    state: State,
-    pending: &[u8],
-    recent: &[u8],
-    confirmed: &[f64],
-    resolved: &[f64],
-) -> io::Result<()> {
-    let last = state.last;
-    say_last(out, last)?;
+fn sums(out: &impl Print, held: Held) -> io::Result<()> {
+    say_last(out, held.state.last)?;
     say_text(out, " ")?;
-    say(out, state.pending as u64)?;
+    say(out, held.state.pending as u64)?;
     say_text(out, " ")?;
-    say(out, state.recent as u64)?;
-    say_sum(out, sum_bytes(pending))?;
-    say_sum(out, sum_bytes(recent))?;
-    say_sum(out, sum_doubles(confirmed))?;
-    say_sum(out, sum_doubles(resolved))?;
+    say(out, held.state.recent as u64)?;
+    say_sum(out, sum_bytes(held.pending))?;
+    say_sum(out, sum_bytes(held.recent))?;
+    say_sum(out, sum_doubles(held.confirmed))?;
+    say_sum(out, sum_doubles(held.resolved))?;
     say_text(out, "\n")
 }
 
-// write, into as many bytes as the buffer has: how many bytes are kept, where so many were
+// write, into as many bytes as the buffer has: how many bytes are kept, where n were
 fn write(
     out: &impl Print,
-    state: State,
-    pending: &[u8],
-    recent: &[u8],
-    confirmed: &[f64],
-    resolved: &[f64],
+    held: Held,
     buffer: &mut [u8],
     kept: &mut [u8],
     n: usize,
-    on: Horizon,
 ) -> io::Result<usize> {
-    fill(buffer, 0xaa);
-    let written = to_history_bytes(state, confirmed, resolved, pending, recent, buffer, on);
+    buffer.fill(0xaa);
+    let written = to_history_bytes(
+        held.state,
+        held.confirmed,
+        held.resolved,
+        held.pending,
+        held.recent,
+        buffer,
+        held.on,
+    );
     match written {
         Ok(len) => {
             say_wrote(out, len, sum_bytes(buffer))?;
@@ -121,40 +123,26 @@ fn write(
 // The question of a line. How many bytes are kept after it, where n were.
 pub(crate) fn ask(
     out: &impl Print,
-    line: Line,
-    state: State,
-    pending: &[u8],
-    recent: &[u8],
-    confirmed: &[f64],
-    resolved: &[f64],
+    line: Option<Line>,
+    held: Held,
     buffer: &mut [u8],
     kept: &mut [u8],
     n: usize,
-    on: Horizon,
 ) -> io::Result<usize> {
-    let of = line.operation;
-    match of {
+    let Some(line) = line else {
+        return Ok(n);
+    };
+    match line.operation {
         Operation::Bucket => say_bucket(out, bucket_index_for_rate(FeeRate(line.a)))?,
         Operation::Estimate => {
             let target = Blocks((line.a % 4294967296) as u32);
-            say_estimate(out, estimate(state, confirmed, resolved, target, on))?;
+            say_estimate(out, held.estimate(target))?;
         }
-        Operation::Estimates => estimates(out, state, confirmed, resolved, on)?,
-        Operation::Sum => sums(out, state, pending, recent, confirmed, resolved)?,
+        Operation::Estimates => estimates(out, held)?,
+        Operation::Sum => sums(out, held)?,
         Operation::Write => {
-            let end = least(line.a as usize, buffer.len());
-            return write(
-                out,
-                state,
-                pending,
-                recent,
-                confirmed,
-                resolved,
-                &mut buffer[0..end],
-                kept,
-                n,
-                on,
-            );
+            let end = buffer.len().min(line.a as usize);
+            return write(out, held, &mut buffer[..end], kept, n);
         }
         _ => {}
     }

@@ -3,16 +3,9 @@ ghost use Rattle.std.specs.Prelude.{◌≤◌};
 
 use kinds::Horizon;
 
-// The lesser of two numbers.
-pub(crate) fn least(a: usize, b: usize) -> usize
-    ensures { (result ≤ a) × (result ≤ b) }
-{
-    if a < b { a } else { b }
-}
-
 // The first n bytes, or all where there are fewer.
-pub(crate) fn front<'a>(s: &'a [u8], n: usize) -> &'a [u8] {
-    if n <= s.len() { &s[0..n] } else { s }
+pub(crate) fn front(s: &[u8], n: usize) -> &[u8] {
+    &s[..n.min(s.len())]
 }
 
 // Where a board's own places begin, of all that there are: the narrow board has the first `most`, and the wide one those behind them.
@@ -21,7 +14,7 @@ pub(crate) fn begins(most: usize, all: usize, on: Horizon) -> usize
 {
     match on {
         Horizon::Base => 0,
-        Horizon::Wide => least(most, all),
+        Horizon::Wide => most.min(all),
     }
 }
 
@@ -30,5 +23,5 @@ pub(crate) fn ends(from: usize, n: usize, all: usize) -> usize
     requires { from ≤ all }
     ensures { (from ≤ result) × (result ≤ all) }
 {
-    from + least(n, all - from)
+    from + n.min(all - from)
 }

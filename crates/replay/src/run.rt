@@ -1,22 +1,17 @@
 // A script, line by line.
-ghost use Rattle.std.specs.Prelude.{◌≤◌, length};
-
-use crate::asks::ask;
+use crate::asks::{Held, ask};
 use crate::parts::{begins, ends, front};
-use crate::says::{say_end, say_reply};
+use crate::says::say_reply;
 use desk::change;
-use desk_calls::Done;
 use gathers::gather;
 use kinds::{Horizon, State};
 use lines::{Line, asked};
 use page::{MOST_COUNTS, MOST_PENDING, MOST_RECENT, Operation};
 use std::io;
 
-// What a run keeps of a board.
+// What a run keeps of a board after its `lend`.
 #[derive(Clone, Copy)]
 struct Loan {
-    // Its `lend` was there.
-    begun: bool,
     // How much of each table, in bytes, and of each list of counts is lent.
     pending: usize,
     recent: usize,
@@ -32,8 +27,8 @@ struct Progress {
     fits: bool,
     // The board that the lines are for, what it has, and what the other one has.
     on: Horizon,
-    own: Loan,
-    other: Loan,
+    own: Option<Loan>,
+    other: Option<Loan>,
     // The length of the history that the last accepted `write` wrote, on either board.
     kept: usize,
 }
@@ -46,108 +41,82 @@ struct Left {
     kept: usize,
 }
 
-// The beginning: the narrow board, and nothing is lent to either.
-fn fresh() -> Progress {
-    let nothing = Loan {
-        begun: false,
+// What is there of a board before its `lend`: nothing.
+fn nothing() -> Loan {
+    Loan {
         pending: 0,
         recent: 0,
         confirmed: 0,
         resolved: 0,
         state: State::empty(),
-    };
+    }
+}
+
+// The beginning: the narrow board, and nothing is lent to either.
+fn fresh() -> Progress {
     Progress {
         fits: true,
         on: Horizon::Base,
-        own: nothing,
-        other: nothing,
+        own: None,
+        other: None,
         kept: 0,
     }
 }
 
 // board: the lines that follow are for the board that the line names.
 fn turned(r: Progress, line: Line) -> Progress {
-    let on = if line.a == 0 {
-        Horizon::Base
-    } else {
-        Horizon::Wide
-    };
-    let was = r.on;
-    let own = r.own;
-    let other = r.other;
-    let stays = match was {
-        Horizon::Base => line.a == 0,
-        Horizon::Wide => line.a != 0,
+    let (on, stays) = match r.on {
+        Horizon::Base => (Horizon::Wide, line.a == 0),
+        Horizon::Wide => (Horizon::Base, line.a != 0),
     };
     if stays {
         return r;
     }
     Progress {
-        fits: r.fits,
         on,
-        own: other,
-        other: own,
-        kept: r.kept,
+        own: r.other,
+        other: r.own,
+        ..r
     }
 }
 
-// The run after a line: after a `lend` that much memory, and the empty state. (What was lent before it is zero then, and nothing beyond that was ever
-// anything else.)
-fn after(r: Progress, line: Line, left: Left) -> Progress {
-    let of = line.operation;
-    let on = r.on;
-    let own = r.own;
-    let other = r.other;
+// lend: that much memory, and the empty state. (What was lent before it is zero then, and nothing beyond that was ever anything else.)
+fn lent(line: Line) -> Loan {
+    Loan {
+        pending: line.a as usize,
+        recent: line.b as usize,
+        confirmed: line.c as usize,
+        resolved: line.d as usize,
+        state: State::empty(),
+    }
+}
+
+// The run after a line.
+fn after(r: Progress, line: Option<Line>, left: Left) -> Progress {
     let state = left.state;
-    match of {
+    let r = Progress {
+        fits: left.fits,
+        own: r.own.map(|loan| Loan { state, ..loan }),
+        kept: left.kept,
+        ..r
+    };
+    let Some(line) = line else {
+        return r;
+    };
+    match line.operation {
         Operation::Board => turned(r, line),
         Operation::Lend => Progress {
-            fits: true,
-            on,
-            own: Loan {
-                begun: true,
-                pending: line.a as usize,
-                recent: line.b as usize,
-                confirmed: line.c as usize,
-                resolved: line.d as usize,
-                state: State::empty(),
-            },
-            other,
-            kept: left.kept,
+            own: Some(lent(line)),
+            ..r
         },
-        _ => Progress {
-            fits: left.fits,
-            on,
-            own: Loan {
-                begun: own.begun,
-                pending: own.pending,
-                recent: own.recent,
-                confirmed: own.confirmed,
-                resolved: own.resolved,
-                state,
-            },
-            other,
-            kept: left.kept,
-        },
+        _ => r,
     }
-}
-
-// Says what a line is answered with, and gives what it leaves.
-fn told(out: &impl Print, done: Done, kept: usize) -> io::Result<Left> {
-    let reply = done.reply;
-    let state = done.state;
-    say_reply(out, reply)?;
-    Ok(Left {
-        fits: done.fits,
-        state,
-        kept,
-    })
 }
 
 // One line, over what its board is lent, where n bytes are kept. What it changes is done first, then what it asks for is told.
 fn act(
     out: &impl Print,
-    line: Line,
+    line: Option<Line>,
     state: State,
     text: &[u8],
     pending: &mut [u8],
@@ -162,16 +131,27 @@ fn act(
     let m = gather(line, text, front(kept, n), buffer);
     let bytes = front(buffer, m);
     let done = change(line, state, bytes, pending, recent, confirmed, resolved, on);
-    let left = ask(
-        out, line, state, pending, recent, confirmed, resolved, buffer, kept, n, on,
-    )?;
-    told(out, done, left)
+    let held = Held {
+        state,
+        pending,
+        recent,
+        confirmed,
+        resolved,
+        on,
+    };
+    let kept = ask(out, line, held, buffer, kept, n)?;
+    say_reply(out, done.reply)?;
+    Ok(Left {
+        fits: done.fits,
+        state: done.state,
+        kept,
+    })
 }
 
 // The same, of as much memory as the board is lent.
 fn turn(
     out: &impl Print,
-    line: Line,
+    line: Option<Line>,
     own: Loan,
     text: &[u8],
     pending: &mut [u8],
@@ -183,7 +163,6 @@ fn turn(
     n: usize,
     on: Horizon,
 ) -> io::Result<Left> {
-    let state = own.state;
     let p0 = begins(MOST_PENDING, pending.len(), on);
     let p1 = ends(p0, own.pending, pending.len());
     let q0 = begins(MOST_RECENT, recent.len(), on);
@@ -195,7 +174,7 @@ fn turn(
     act(
         out,
         line,
-        state,
+        own.state,
         text,
         &mut pending[p0..p1],
         &mut recent[q0..q1],
@@ -208,19 +187,8 @@ fn turn(
     )
 }
 
-// Where the line that begins at `at` ends: its LF's place, or the end of the script.
-fn line_end(script: &[u8], at: usize) -> usize
-    requires { at ≤ length script.now }
-    ensures { (at ≤ result) × (result ≤ length script.now) }
-{
-    let mut end = at;
-    while end < script.len() && script[end] != b'\n' {
-        end += 1;
-    }
-    end
-}
-
 // A whole script; a line that does not fit, or has no LF, is told by its number.
+// (The memory goes as slices: a call that is lent two slices of a struct is not proved.)
 pub(crate) fn run(
     out: &impl Print,
     script: &[u8],
@@ -232,23 +200,18 @@ pub(crate) fn run(
     kept: &mut [u8],
 ) -> io::Result<()> {
     let mut r = fresh();
-    let mut at = 0;
-    let mut lines = 0;
-    while at < script.len() {
-        if !r.fits {
-            break;
-        }
-        lines += 1;
-        let end = line_end(script, at);
-        let on = r.on;
-        let own = r.own;
-        let text = &script[at..end];
-        let line = asked(text, end < script.len(), own.begun, on);
+    for (k, piece) in script.split_inclusive(|&x| x == b'\n').enumerate() {
+        let ended = piece.strip_suffix(b"\n");
+        let text = ended.unwrap_or(piece);
+        let line = asked(text, ended.is_some(), r.own.is_some(), r.on);
+        let own = r.own.unwrap_or(nothing());
         let left = turn(
-            out, line, own, text, pending, recent, confirmed, resolved, buffer, kept, r.kept, on,
+            out, line, own, text, pending, recent, confirmed, resolved, buffer, kept, r.kept, r.on,
         )?;
         r = after(r, line, left);
-        at = end + 1;
+        if !r.fits {
+            return println!(out; "bad line {}", k + 1);
+        }
     }
-    say_end(out, r.fits, lines)
+    Ok(())
 }

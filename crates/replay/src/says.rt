@@ -79,11 +79,3 @@ pub(crate) fn say_wrote(out: &impl Print, n: usize, sum: u32) -> io::Result<()> 
     say_sum(out, sum)?;
     say_text(out, "\n")
 }
-
-// The end of a run: a line that does not fit is told by its number.
-pub(crate) fn say_end(out: &impl Print, fits: bool, line: usize) -> io::Result<()> {
-    if fits {
-        return Ok(());
-    }
-    println!(out; "bad line {line}")
-}

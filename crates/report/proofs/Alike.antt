@@ -7,6 +7,8 @@ use native.Mathlib.Nat.{mul-div_cancel}
 use native.Mathlib.Omega.{arith}
 use lib.Ieee.{Float}
 use lib.ListN.{length, replicate, length-replicate}
+use Rattle.std.specs.Prelude.{Option}
+use Rattle.kinds.specs.declared.Height.{Height}
 use Rattle.kinds.specs.declared.Horizon.{Horizon}
 use Rattle.rules.specs.Counts.{places_of_counts, nought}
 use Rattle.rules.specs.Records.{capacity}
@@ -19,11 +21,10 @@ use Rattle.kinds.specs.Answers.{damaged, no_room}
 use Rattle.format.specs.Parts.{Parsed, bad, good}
 use Rattle.format.specs.File.{version_of, read_history, restored}
 use Rattle.format.specs.Calls.{has_room, taken_in, read_call}
-use Rattle.premise.specs.declared.Chain.{Chain}
 use Rattle.report.specs.Shown.{told_of, Reach, reach, room}
 
 -- two memories with the same counts, and tables with room for as many records
-module _ (chain : Chain) (on : Horizon) (c r : List Float) (p q p' q' : List ℕ) (as_many : pending_capacity (board_of on) p ≡ pending_capacity (board_of on) p') (as-recent : confirmed_capacity q ≡ confirmed_capacity q') where
+module _ (chain : Option Height) (on : Horizon) (c r : List Float) (p q p' q' : List ℕ) (as_many : pending_capacity (board_of on) p ≡ pending_capacity (board_of on) p') (as-recent : confirmed_capacity q ≡ confirmed_capacity q') where
   taken_alike : (e : Parsed Estimator) → told_of chain on (taken_in (board_of on) (lent c r p q) e) ≡ told_of chain on (taken_in (board_of on) (lent c r p' q') e)
   unfolding taken_in has_room told_of lay
   taken_alike (bad why) = refl
@@ -60,7 +61,7 @@ unfolding room
 room_for_recent r = room_for confirmed_size confirmed_most r.recent (omega arith)
 
 -- a reading into tables tells what it tells in zeros of their size
-pub told_in_room : (chain : Chain) (on : Horizon) (pending recent : List ℕ) (longest : ℕ) (file : List ℕ) → let r = reach (length pending / pending_size) (length recent / confirmed_size) longest in
+pub told_in_room : (chain : Option Height) (on : Horizon) (pending recent : List ℕ) (longest : ℕ) (file : List ℕ) → let r = reach (length pending / pending_size) (length recent / confirmed_size) longest in
     told_of chain on (read_call (version_of on) (board_of on) (over pending recent) file) ≡ told_of chain on (read_call (version_of on) (board_of on) (room r) file)
 unfolding room
 told_in_room chain on pending recent longest file =

@@ -7,6 +7,7 @@ use Prim.Native.Nat.{ℕ}
 use lib.Dec.{T, eqb, eqb→eq}
 use lib.Ieee.{Float}
 use lib.Pow.{are_bytes}
+use Rattle.kinds.specs.declared.Height.{Height}
 use Rattle.kinds.specs.declared.Horizon.{Horizon}
 use Rattle.kinds.specs.declared.State.{State}
 use Rattle.kinds.specs.Answers.{Answer}
@@ -21,7 +22,6 @@ use Rattle.format.specs.Calls.{read_call}
 use Rattle.format.proofs.Back.{version_lawful}
 use Rattle.format.proofs.Again.{accepted_is_sound}
 use Rattle.print.specs.Text.{Text}
-use Rattle.premise.specs.declared.Chain.{Chain}
 use Rattle.premise.specs.Premise.{premise}
 use Rattle.report.specs.Shown.{rate_text, state_lines, target_lines, refusal, told, told_of}
 use Rattle.report.specs.Rates.{carried_rate, answered}
@@ -37,7 +37,7 @@ unfolding answered estimate_call
 answered_is on s c r p q t = rw (p, q) (carried_is (estimate (board_of on) t c r))
 
 -- rates count only where the answer is 0
-told_same : (chain : Chain) (on : Horizon) (a : Answer) (s : State) (f g : ℕ → Text) → (a.number ≡ 0 → (t : ℕ) → f t ≡ g t) → told chain on a s f ≡ told chain on a s g
+told_same : (chain : Option Height) (on : Horizon) (a : Answer) (s : State) (f g : ℕ → Text) → (a.number ≡ 0 → (t : ℕ) → f t ≡ g t) → told chain on a s f ≡ told chain on a s g
 unfolding told
 told_same chain on a s f g h = go (eqb a.number 0) refl
   where
@@ -47,7 +47,7 @@ told_same chain on a s f g h = go (eqb a.number 0) refl
     go true e = ap (λ (l : List Text). premise chain s.last ++ (state_lines s ++ l)) (lines_same (board_of on).width f g (h (eqb→eq a.number 0 (rw e tt))) 1 25)
     go false e = refl
 
-pub told_is : (chain : Chain) (on : Horizon) (l : Lent) (file : List ℕ) → T (are_bytes file) → let o = read_call (version_of on) (board_of on) l file in
+pub told_is : (chain : Option Height) (on : Horizon) (l : Lent) (file : List ℕ) → T (are_bytes file) → let o = read_call (version_of on) (board_of on) l file in
     told chain on o.answer o.state (answered o.state o.lent.confirmed o.lent.resolved on) ≡ told_of chain on o
 unfolding sound told_of
 told_is chain on l file b =

@@ -9,10 +9,11 @@ use lib.ListN.{length}
 use lib.Seq.{sets, length-sets, length-take-le}
 use lib.Pow.{are_bytes}
 use Rattle.io.specs.Counts.{IsPrefixLen}
+use Rattle.kinds.specs.declared.Height.{Height}
 use Rattle.kinds.specs.declared.Horizon.{Horizon}
 use Rattle.kinds.specs.declared.State.{State}
 use Rattle.kinds.specs.declared.refusals.ReadError.{ReadError}
-use Rattle.std.specs.Prelude.{Result}
+use Rattle.std.specs.Prelude.{Option, Result}
 use Rattle.kinds.specs.Answers.{read_answer}
 use Rattle.rules.specs.Records.{joined}
 use Rattle.rules.specs.Board.{board_of, pending_size, confirmed_size}
@@ -23,14 +24,13 @@ use Rattle.format.specs.Calls.{read_call}
 use Rattle.print.specs.Page.{Page, page, writes}
 use Rattle.print.specs.Text.{Text}
 use Rattle.report.specs.Words.{refused, too_long}
-use Rattle.premise.specs.declared.Chain.{Chain}
 use Rattle.report.specs.Shown.{line, told, Reach, reach, pieces, shown, printed}
 use Rattle.report.specs.Rates.{answered}
 use Rattle.report.proofs.Pieces.{whole}
 use Rattle.report.proofs.Answered.{told_is}
 use Rattle.report.proofs.Alike.{over, told_in_room}
 
-module _ (r : Reach) (chain : Chain) (on : Horizon) (file out : List ℕ) (long : length out ≡ 2048) where
+module _ (r : Reach) (chain : Option Height) (on : Horizon) (file out : List ℕ) (long : length out ≡ 2048) where
   abbrev AllPut : Text → ℕ → Type 0
   AllPut x n = IsPrefixLen n x × (page x n ≡ printed (shown r chain on file) out)
 
@@ -48,7 +48,7 @@ module _ (r : Reach) (chain : Chain) (on : Horizon) (file out : List ℕ) (long 
   put_too_long h = all_put (line refused too_long) (sym (rw (lt-ltb r.longest (length file) h))) (omega arith)
 
 -- what a reading into tables of these lengths tells, of the board's own version, is what the file's pieces are
-pub told_pieces : (chain : Chain) (on : Horizon) (file : List ℕ) → T (are_bytes file) → (longest : ℕ) → length file ≤ longest → (pending recent : List ℕ)
+pub told_pieces : (chain : Option Height) (on : Horizon) (file : List ℕ) → T (are_bytes file) → (longest : ℕ) → length file ≤ longest → (pending recent : List ℕ)
     → (a : Result State ReadError) (s : State) (l : Lent) → outcome (read_answer a) s l ≡ read_call (version_of on) (board_of on) (over pending recent) file
     → told chain on (read_answer a) s (answered s l.confirmed l.resolved on) ≡ pieces (reach (length pending / pending_size) (length recent / confirmed_size) longest) chain on file
 unfolding pieces

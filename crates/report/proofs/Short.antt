@@ -7,9 +7,10 @@ use native.Mathlib.Omega.{arith}
 use lib.Dec.{ltb}
 use lib.ListN.{length, length-append}
 use lib.Ieee.{Float}
+use Rattle.kinds.specs.declared.Height.{Height}
 use Rattle.kinds.specs.declared.Horizon.{Horizon}
 use Rattle.kinds.specs.Last.{Last}
-use Rattle.std.specs.Prelude.{None, Some}
+use Rattle.std.specs.Prelude.{Option, None, Some}
 use Rattle.kinds.specs.declared.State.{State}
 use Rattle.kinds.specs.declared.refusals.ReadError.{ReadError}
 use Rattle.std.specs.Prelude.{Result, Ok, Err}
@@ -19,8 +20,6 @@ use Rattle.rules.specs.Board.{board_of}
 use Rattle.rules.specs.Calls.{widest_gap}
 use Rattle.print.specs.Numerals.{decimal_in, decimal}
 use Rattle.print.specs.Text.{Text}
-use Rattle.premise.specs.declared.Chain.{Chain}
-use Rattle.premise.specs.declared.Chain.TheVariants.{Untold, Tip}
 use Rattle.premise.specs.Premise.{between, ahead, behind, level, beside, no_last, premise}
 use Rattle.report.specs.Shown.{line, last_text, state_lines, target_line, target_lines, name, carried, refusal, told}
 use Rattle.report.specs.Rates.{carried_rate, answered}
@@ -79,13 +78,13 @@ beside_short h n = go (ltb n h) (ltb widest_gap (n - h)) (decimal_short h) (deci
     go false true d e = simp length-append (omega arith)
     go false false d e = simp length-append (omega arith)
 
-premise_short : (chain : Chain) (l : Last) → length (joined (premise chain l)) ≤ 250
+premise_short : (chain : Option Height) (l : Last) → length (joined (premise chain l)) ≤ 250
 unfolding joined premise no_last
-premise_short Untold l = omega arith
-premise_short (Tip n) None = omega arith
-premise_short (Tip n) (Some h) = beside_short h.0 n.0
+premise_short None l = omega arith
+premise_short (Some n) None = omega arith
+premise_short (Some n) (Some h) = beside_short h.0 n.0
 
-pub told_short : (chain : Chain) (on : Horizon) (a : Result State ReadError) (s : State) (f : ℕ → Text) → ((t : ℕ) → length (f t) ≤ 20) → length (joined (told chain on (read_answer a) s f)) ≤ 2048
+pub told_short : (chain : Option Height) (on : Horizon) (a : Result State ReadError) (s : State) (f : ℕ → Text) → ((t : ℕ) → length (f t) ≤ 20) → length (joined (told chain on (read_answer a) s f)) ≤ 2048
 unfolding told refusal name carried joined
 told_short chain on (Ok t) s f h =
     let w = (board_of on).width in

@@ -2,6 +2,7 @@
 -- is. A line is told in pieces. Assumes nothing.
 use Rattle.std.specs.Prelude.{ℕ, zero, suc, ◌*◌, cond, List, [], ◌∷◌, ◌++◌, ltb, eqb, length, take, drop, replicate, Option, None, Some}
 use Rattle.std.proofs.lemmas.List.Edits.{sets}
+use Rattle.kinds.specs.declared.Height.{Height}
 use Rattle.kinds.specs.declared.Horizon.{Horizon}
 use Rattle.kinds.specs.Last.{Last}
 use Rattle.kinds.specs.declared.State.{State}
@@ -18,7 +19,6 @@ use Rattle.format.specs.File.{version_3, version_of}
 use Rattle.format.specs.Calls.{read_call}
 use Rattle.print.specs.Page.{Page, page}
 use Rattle.print.specs.Numerals.{decimal}
-use Rattle.premise.specs.declared.Chain.{Chain}
 use Rattle.premise.specs.Premise.{premise}
 use Rattle.print.specs.Text.{Text}
 use Rattle.report.specs.Words.{height, pending, confirmed, refused, space, dash, end, damaged, bad_magic, unknown_version, corrupt, no_room, too_long}
@@ -64,11 +64,11 @@ unfoldable pub refusal : Answer → List Text
 refusal a = refused ∷ name a.number ∷ (carried a.carries ++ (end ∷ []))
 
 -- what is told of a reading: its answer, its state, and the rate of each column's target; before all else, whether the file goes with the chain
-unfoldable pub told : Chain → Horizon → Answer → State → (ℕ → Text) → List Text
+unfoldable pub told : Option Height → Horizon → Answer → State → (ℕ → Text) → List Text
 told chain on a s rate = cond (eqb a.number 0) (premise chain s.last ++ (state_lines s ++ target_lines (board_of on).width rate 1 columns)) (refusal a)
 
 -- what is told of a file, once it is read
-unfoldable pub told_of : Chain → Horizon → Outcome Lent → List Text
+unfoldable pub told_of : Option Height → Horizon → Outcome Lent → List Text
 told_of chain on o = told chain on o.answer o.state (λ t. rate_text (estimate (board_of on) t o.lent.confirmed o.lent.resolved))
 
 -- how much a program takes in: so many pending and confirmed records, and so many bytes
@@ -99,11 +99,11 @@ unfoldable pub named_by : List ℕ → Horizon
 named_by file = cond (same (take 4 (drop 8 file)) (bytes 4 version_3.number)) Horizon.Wide Horizon.Base
 
 -- A longer input prints `refused TooLong`; any other, what its reading as a file of that board tells.
-unfoldable pub pieces : Reach → Chain → Horizon → List ℕ → List Text
+unfoldable pub pieces : Reach → Option Height → Horizon → List ℕ → List Text
 pieces r chain on file = cond (ltb r.longest (length file)) (line refused too_long) (told_of chain on (read_call (version_of on) (board_of on) (room r) file))
 
 -- everything that is printed of a file: `show` is at the base board, `inspect` at the board that the file names
-unfoldable pub shown : Reach → Chain → Horizon → List ℕ → Text
+unfoldable pub shown : Reach → Option Height → Horizon → List ℕ → Text
 shown r chain on file = joined (pieces r chain on file)
 
 -- a page that has that text at its start

@@ -15,9 +15,8 @@ ghost use Rattle.report.specs.Shown.{told, named_by, reach, shown, printed};
 ghost use Rattle.report.specs.Rates.{answered};
 
 use estimator::from_history_bytes;
-use kinds::{COUNTS, Horizon, ReadError, State, WIDE_HISTORY_VERSION};
+use kinds::{COUNTS, Height, Horizon, ReadError, State, WIDE_HISTORY_VERSION};
 use lines::{put_accepted, put_refused, put_version};
-use premise::Chain;
 use reader::number;
 
 // The most bytes that are printed.
@@ -27,7 +26,7 @@ pub const PAGE: usize = 2048;
 #[tactic(auto, unfolding(crate::specs::Shown::told, crate::specs::Shown::refusal, crate::specs::Shown::name, crate::specs::Shown::carried, crate::specs::Shown::line))]
 fn tell(
     out: &mut [u8],
-    chain: Chain,
+    chain: Option<Height>,
     reading: Result<State, ReadError>,
     confirmed: &[f64],
     resolved: &[f64],
@@ -63,7 +62,7 @@ pub fn named_by(file: &[u8]) -> Horizon
 pub fn report(
     file: &[u8],
     longest: usize,
-    chain: Chain,
+    chain: Option<Height>,
     pending: &mut [u8],
     recent: &mut [u8],
     out: &mut [u8; PAGE],

@@ -13,7 +13,7 @@ ghost use Rattle.report.specs.Rates.{carried_rate, answered};
 use boards::width_of;
 use estimator::estimate;
 use kinds::{Blocks, Damaged, FeeRate, Height, Horizon, MAX_CONF_TARGET, State};
-use premise::{Chain, put_premise};
+use premise::put_premise;
 use print::{put, put_byte, put_decimal};
 
 // A word and what is told of it.
@@ -135,7 +135,7 @@ fn put_targets(
 // What is told of a file that was accepted, from the start of the page: whether it goes with the chain, the state, and the rates.
 pub(crate) fn put_accepted(
     out: &mut [u8],
-    chain: Chain,
+    chain: Option<Height>,
     state: State,
     confirmed: &[f64],
     resolved: &[f64],

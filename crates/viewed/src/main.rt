@@ -2,7 +2,6 @@
 #![tactic(auto)]
 
 use kinds::Height;
-use premise::Chain;
 use std::fs::File;
 use std::io;
 
@@ -20,7 +19,7 @@ fn shown(rt: &HostRuntime, name: &str) -> io::Result<()> {
 }
 
 // What `inspect` prints of a file.
-fn inspected(rt: &HostRuntime, name: &str, chain: Chain) -> io::Result<()> {
+fn inspected(rt: &HostRuntime, name: &str, chain: Option<Height>) -> io::Result<()> {
     let mut input = opened(rt, name)?;
     views::inspect(&mut input, rt, chain)?;
     Ok(())
@@ -28,7 +27,7 @@ fn inspected(rt: &HostRuntime, name: &str, chain: Chain) -> io::Result<()> {
 
 // What `inspect` prints of a file beside a chain of that height.
 fn beside(rt: &HostRuntime, name: &str, height: u32) -> io::Result<()> {
-    inspected(rt, name, Chain::Tip(Height(height)))
+    inspected(rt, name, Some(Height(height)))
 }
 
 // 65,536 bytes and one more, an unknown version, and no byte at all. Then what `inspect` takes and what is too long for it; a file with no last height; and one whose
@@ -40,17 +39,17 @@ fn main(rt: HostRuntime) -> io::Result<()> {
     shown(rt, "65537_zeros")?;
     shown(rt, "version_2")?;
     shown(rt, "empty")?;
-    inspected(rt, "65537_zeros", Chain::Untold)?;
-    inspected(rt, "/dev/zero", Chain::Untold)?;
+    inspected(rt, "65537_zeros", None)?;
+    inspected(rt, "/dev/zero", None)?;
     beside(rt, "fresh", 0)?;
     beside(rt, "quad", 100)?;
     beside(rt, "quad", 101)?;
     beside(rt, "quad", 4197)?;
     beside(rt, "quad", 4198)?;
     shown(rt, "wide_fresh")?;
-    inspected(rt, "wide_fresh", Chain::Untold)?;
-    inspected(rt, "wide_three", Chain::Untold)?;
+    inspected(rt, "wide_fresh", None)?;
+    inspected(rt, "wide_three", None)?;
     beside(rt, "wide_three", 112)?;
     beside(rt, "wide_three", 113)?;
-    inspected(rt, "wide_width_1", Chain::Untold)
+    inspected(rt, "wide_width_1", None)
 }

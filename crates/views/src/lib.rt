@@ -6,28 +6,14 @@ ghost use Rattle.std.specs.Prelude.{◌<◌, ◌≡◌, length, take};
 ghost use Rattle.io.specs.Counts.{IsPrefixLen};
 ghost use Rattle.kinds.specs.declared.Horizon.{Horizon};
 ghost use Rattle.print.specs.Page.{page};
-ghost use Rattle.premise.specs.declared.Chain.TheVariants.{Untold};
 ghost use Rattle.report.specs.Shown.{of_show, of_inspect, named_by, shown, printed};
 
+use buffers::{read_full, zeros};
 use codec::numbers::take;
-use kinds::{CONFIRMED_SIZE, Horizon, PENDING_SIZE};
-use premise::Chain;
+use kinds::{CONFIRMED_SIZE, Height, Horizon, PENDING_SIZE};
 use report::{PAGE, named_by, report};
 use std::io;
 use std::io::{Print, Read};
-
-// Reads until the buffer is full or the input ends; how many bytes were read.
-fn read_full(input: &mut impl Read, buf: &mut [u8]) -> io::Result<usize> {
-    let mut n = 0;
-    while n < buf.len() {
-        let more = input.read(&mut buf[n..])?;
-        if more == 0 {
-            break;
-        }
-        n += more;
-    }
-    Ok(n)
-}
 
 // ---- show
 
@@ -51,12 +37,12 @@ pub fn show_text(
 ) -> usize
     ensures prefix_len { IsPrefixLen result out.new }
     ensures longest_in_bounds { of_show.longest < length file.now }
-    ensures result_after { page out.new result ≡ printed (shown of_show Untold Horizon.Base (take n file.now)) out.old }
+    ensures result_after { page out.new result ≡ printed (shown of_show None Horizon.Base (take n file.now)) out.old }
 {
     report(
         take(file, n),
         SHOW_LONGEST,
-        Chain::Untold,
+        None,
         pending,
         recent,
         out,
@@ -66,10 +52,10 @@ pub fn show_text(
 
 // Reads a history, and writes what `show` prints of it; whether all was written. (No contract can say what is read or written.)
 pub fn show(input: &mut impl Read, output: &impl Print) -> io::Result<bool> {
-    let mut file = show_zeros();
+    let mut file = zeros::<SHOW_BUFFER>();
     let n = read_full(input, &mut file)?;
-    let mut pending = [0u8; SHOW_PENDING];
-    let mut recent = [0u8; SHOW_RECENT];
+    let mut pending = zeros::<SHOW_PENDING>();
+    let mut recent = zeros::<SHOW_RECENT>();
     let mut out = [0u8; PAGE];
     let k = show_text(&file, n, &mut pending, &mut recent, &mut out);
     Ok(output.write_all(&out[..k]).is_ok())
@@ -91,7 +77,7 @@ const INSPECT_BUFFER: usize = INSPECT_LONGEST + 1;
 pub fn inspect_text(
     file: &[u8; INSPECT_BUFFER],
     n: usize,
-    chain: Chain,
+    chain: Option<Height>,
     pending: &mut [u8; INSPECT_PENDING],
     recent: &mut [u8; INSPECT_RECENT],
     out: &mut [u8; PAGE],
@@ -107,38 +93,12 @@ pub fn inspect_text(
 }
 
 // Reads a history, and writes what `inspect` prints of it beside a chain; whether all was written.
-pub fn inspect(input: &mut impl Read, output: &impl Print, chain: Chain) -> io::Result<bool> {
-    let mut file = inspect_zeros();
+pub fn inspect(input: &mut impl Read, output: &impl Print, chain: Option<Height>) -> io::Result<bool> {
+    let mut file = zeros::<INSPECT_BUFFER>();
     let n = read_full(input, &mut file)?;
-    let mut pending = pending_zeros();
-    let mut recent = recent_zeros();
+    let mut pending = zeros::<INSPECT_PENDING>();
+    let mut recent = zeros::<INSPECT_RECENT>();
     let mut out = [0u8; PAGE];
     let k = inspect_text(&file, n, chain, &mut pending, &mut recent, &mut out);
     Ok(output.write_all(&out[..k]).is_ok())
-}
-
-// ---- zeros. The `ensures` of these functions give only the length, which lending needs.
-
-fn show_zeros() -> [u8; SHOW_BUFFER]
-    ensures { 65537 ≡ length result }
-{
-    [0u8; SHOW_BUFFER]
-}
-
-fn inspect_zeros() -> [u8; INSPECT_BUFFER]
-    ensures { 3197970 ≡ length result }
-{
-    [0u8; INSPECT_BUFFER]
-}
-
-fn pending_zeros() -> [u8; INSPECT_PENDING]
-    ensures { 440000 ≡ length result }
-{
-    [0u8; INSPECT_PENDING]
-}
-
-fn recent_zeros() -> [u8; INSPECT_RECENT]
-    ensures { 2700000 ≡ length result }
-{
-    [0u8; INSPECT_RECENT]
 }

@@ -1,0 +1,31 @@
+// What the programs read into: arrays of zeros, and an input read to its end.
+#![tactic(auto)]
+
+ghost use Rattle.std.specs.Prelude.{◌≡◌, length, All};
+ghost use Rattle.std.specs.Io.{ReadsAtMost};
+
+use std::io;
+use std::io::Read;
+
+// Zeros. The clauses do not name the array, which would stand in all that a caller proves.
+pub fn zeros<const N: usize>() -> [u8; N]
+    ensures long { length result ≡ N }
+    ensures zero { All (λ x. x ≡ 0) result }
+{
+    [0u8; N]
+}
+
+// Reads until the buffer is full or the input ends; how many bytes were read.
+pub fn read_full(input: &mut impl Read, buf: &mut [u8]) -> io::Result<usize>
+    ensures { ReadsAtMost result buf.new }
+{
+    let mut n = 0;
+    while n < buf.len() {
+        let more = input.read(&mut buf[n..])?;
+        if more == 0 {
+            break;
+        }
+        n += more;
+    }
+    Ok(n)
+}

@@ -1,8 +1,0 @@
--- `views::pending_zeros` is as long as its type says, by the law of `replicate`, and not by counting. Assumes nothing.
-use mathlib.Core.Path.{sym}
-use Prim.Native.Nat.{ℕ}
-use lib.ListN.{length-replicate}
-use Rattle.views.proofs.pending_zeros.Goals as goal
-
-pub returns : goal.returns
-returns c = sym (length-replicate {A = ℕ} 440000 0)
