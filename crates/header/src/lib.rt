@@ -7,34 +7,25 @@ ghost use Rattle.format.specs.File.{version_told, with_bucket_count, read_start,
 ghost use Rattle.header.specs.Says.{header_says};
 
 use codec::numbers::u64_le;
-use kinds::{BUCKET_COUNT, FileVersion, Height, Last, WIDE_WIDTH};
+use kinds::{BUCKET_COUNT, FileVersion, Height, ReadError, WIDE_WIDTH};
 use reader::{number, part};
 use version::{after_len, number_of};
 
 // BRSEFEES as a number of eight bytes, the first of them lowest.
 pub const MAGIC: u64 = 0x5345454645535242;
 
-// What the header says, or why it is refused.
-#[derive(Clone, Copy)]
-pub enum Header {
-    BadMagic,
-    UnknownVersion(u32),
-    Corrupt,
-    Good(Last),
-}
-
 // The header's end, after the last height: the bucket count, at `at`.
-fn ends(s: &[u8], at: usize, last: Last) -> Header
+fn ends(s: &[u8], at: usize, last: Option<Height>) -> Result<Option<Height>, ReadError>
     requires { at ≤ length s.now }
     ensures { header_says result ≡ begun (with_bucket_count last (drop at s.now)) }
 {
     if s.len() - at < 4 {
-        return Header::Corrupt;
+        return Err(ReadError::Corrupt);
     }
     if number(s, at) == BUCKET_COUNT as u32 {
-        return Header::Good(last);
+        return Ok(last);
     }
-    Header::Corrupt
+    Err(ReadError::Corrupt)
 }
 
 // Whether the bytes of the version stand directly after its number.
@@ -54,47 +45,47 @@ fn followed(s: &[u8], version: FileVersion) -> bool
 }
 
 // The last height and the bucket count, from `at` on.
-fn starts(s: &[u8], at: usize) -> Header
+fn starts(s: &[u8], at: usize) -> Result<Option<Height>, ReadError>
     requires { at ≤ length s.now }
     ensures { header_says result ≡ begun (read_start (drop at s.now)) }
 {
     if s.len() - at < 1 {
-        return Header::Corrupt;
+        return Err(ReadError::Corrupt);
     }
     let flag = part(s, at, 1)[0];
-    if flag == 0 {
-        return ends(s, at + 1, Last::Nothing);
+    match flag {
+        0 => ends(s, at + 1, None),
+        1 => {
+            if s.len() - at < 5 {
+                return Err(ReadError::Corrupt);
+            }
+            let h = number(s, at + 1);
+            ends(s, at + 5, Some(Height(h)))
+        }
+        _ => Err(ReadError::Corrupt),
     }
-    if flag != 1 {
-        return Header::Corrupt;
-    }
-    if s.len() - at < 5 {
-        return Header::Corrupt;
-    }
-    let h = number(s, at + 1);
-    ends(s, at + 5, Last::At(Height(h)))
 }
 
-// The header of a history file, up to the buckets.
-pub fn read_header(s: &[u8], version: FileVersion) -> Header
+// The header of a history file, up to the buckets: its last height.
+pub fn read_header(s: &[u8], version: FileVersion) -> Result<Option<Height>, ReadError>
     ensures { header_says result ≡ begun (read_head (version_told version) s.now) }
 {
     if s.len() < 8 {
-        return Header::Corrupt;
+        return Err(ReadError::Corrupt);
     }
     let m = u64_le(part(s, 0, 8), 0);
     if m != MAGIC {
-        return Header::BadMagic;
+        return Err(ReadError::BadMagic);
     }
     if s.len() < 12 {
-        return Header::Corrupt;
+        return Err(ReadError::Corrupt);
     }
     let v = number(s, 8);
     if v != number_of(version) {
-        return Header::UnknownVersion(v);
+        return Err(ReadError::UnknownVersion(v));
     }
-    if followed(s, version) {
-        return starts(s, 12 + after_len(version));
+    if !followed(s, version) {
+        return Err(ReadError::Corrupt);
     }
-    Header::Corrupt
+    starts(s, 12 + after_len(version))
 }

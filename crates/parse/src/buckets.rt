@@ -15,12 +15,9 @@ pub(crate) fn buckets_ok(s: &[u8], at: usize) -> bool
     requires { at + buckets_size ≤ length s.now }
     ensures { result ≡ is_read (read_buckets rates (drop at s.now)) }
 {
-    let mut i = 0;
-    while i < BUCKET_COUNT {
+    for i in 0..BUCKET_COUNT {
         let bytes = part(s, at + BUCKET_SIZE * i, BUCKET_SIZE);
-        if bucket_ok(bytes, ladder::rate_at(i)) {
-            i += 1;
-        } else {
+        if !bucket_ok(bytes, ladder::rate_at(i)) {
             return false;
         }
     }
@@ -34,10 +31,8 @@ pub fn load_buckets(s: &[u8], at: usize, confirmed: &mut [f64], resolved: &mut [
     ensures { (confirmed.new ≡ rows_at buckets s.now (at + confirmed_row) ++ drop places_of_counts confirmed.old)
         × (resolved.new ≡ rows_at buckets s.now (at + resolved_row) ++ drop places_of_counts resolved.old) }
 {
-    let mut i = 0;
-    while i < BUCKET_COUNT {
+    for i in 0..BUCKET_COUNT {
         let bytes = part(s, at + BUCKET_SIZE * i, BUCKET_SIZE);
         load_bucket(bytes, confirmed, resolved, i);
-        i += 1;
     }
 }

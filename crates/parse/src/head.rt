@@ -8,18 +8,18 @@ ghost use Rattle.parse.specs.Says.{head_size};
 
 use codec::numbers::{put_u8, put_u64};
 use header::MAGIC;
-use kinds::{BUCKET_COUNT, FileVersion, Last, WIDE_WIDTH};
+use kinds::{BUCKET_COUNT, FileVersion, Height, WIDE_WIDTH};
 use version::{after_len, number_of};
 
 // How many bytes a header with this last height has.
-pub fn header_len(last: Last, version: FileVersion) -> usize
+pub fn header_len(last: Option<Height>, version: FileVersion) -> usize
     ensures value { result ≡ head_size (version_told version) last }
     ensures upper_bound { result ≤ 21 + 4 }
 {
     let n = after_len(version);
     match last {
-        Last::Nothing => 17 + n,
-        Last::At(_) => 21 + n,
+        None => 17 + n,
+        Some(_) => 21 + n,
     }
 }
 
@@ -37,16 +37,16 @@ fn put_after(out: &mut [u8], version: FileVersion)
 }
 
 // The last height and the bucket count are put into out from `at` on.
-fn put_last(out: &mut [u8], at: usize, last: Last)
+fn put_last(out: &mut [u8], at: usize, last: Option<Height>)
     requires { at + 5 + height_length last ≤ length out.old }
     ensures { out.new ≡ sets out.old at (last_bytes last ++ bytes 4 buckets) }
 {
     match last {
-        Last::Nothing => {
+        None => {
             put_u8(out, at, 0);
             mem::put_u32(out, at + 1, BUCKET_COUNT as u32);
         }
-        Last::At(h) => {
+        Some(h) => {
             put_u8(out, at, 1);
             mem::put_u32(out, at + 1, h.0);
             mem::put_u32(out, at + 5, BUCKET_COUNT as u32);
@@ -55,7 +55,7 @@ fn put_last(out: &mut [u8], at: usize, last: Last)
 }
 
 // The header is put first into out.
-pub fn put_header(out: &mut [u8], last: Last, version: FileVersion)
+pub fn put_header(out: &mut [u8], last: Option<Height>, version: FileVersion)
     requires { head_size (version_told version) last ≤ length out.old }
     ensures { out.new ≡ sets out.old 0 (head_bytes (version_told version) last) }
 {

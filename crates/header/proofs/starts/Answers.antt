@@ -6,8 +6,7 @@ use lib.ListN.{drop, get_or}
 use Rattle.std.specs.Prelude.{Some}
 use Rattle.format.specs.Parts.{begun}
 use Rattle.format.specs.File.{with_bucket_count}
-use Rattle.header.specs.Says.{header_says}
-use Rattle.reader.proofs.Taken.{long_taken, byte_taken}
+use Rattle.reader.proofs.Taken.{byte_taken}
 use Rattle.header.proofs.Parts.{no_flag, flag_none, flag_other, flag_short, flag_at}
 use Rattle.header.proofs.starts.Goals as goal
 use Rattle.header.proofs.starts.Goals.{After-part}
@@ -17,28 +16,25 @@ flag : (p : After-part) → get_or p.part.result.now 0 0 ≡ get_or p.args.s.now
 flag p = byte_taken 1 p.args.s.now p.args.at p.part.result.now p.part.ensures (omega arith)
 
 pub returns-then-s-at-lt1 : goal.returns-then-s-at-lt1
-unfolding header_says begun
+unfolding begun
 returns-then-s-at-lt1 c = sym (ap begun (no_flag c.args.s.now c.args.at (omega arith) (omega arith)))
 
-pub bounds-part-0 : goal.bounds-part-0
-bounds-part-0 c = omega (arith, long_taken 1 c.args.s.now c.args.at c.part.result.now c.part.ensures (omega arith))
+pub returns-in-0 : goal.returns-in-0
+returns-in-0 c = c.ends.ensures ∙ ap begun (sym (flag_none c.args.s.now c.args.at (omega arith) (omega (arith, flag (goal.at.returns-in-0 c).After-part))))
 
-pub returns-then-flag-eq0 : goal.returns-then-flag-eq0
-returns-then-flag-eq0 c = c.ends.ensures ∙ ap begun (sym (flag_none c.args.s.now c.args.at (omega arith) (omega (arith, flag (goal.at.returns-then-flag-eq0 c).After-part, c.if-flag-eq0.true))))
-
-pub returns-then-flag-ne1 : goal.returns-then-flag-ne1
-unfolding header_says begun
-returns-then-flag-ne1 c =
-    let f : get_or c.args.s.now c.args.at 0 ≡ 0 → ⊥ = λ e. omega (arith, flag (goal.at.returns-then-flag-ne1 c).After-part, c.if-flag-eq0.false) in
-    let g : get_or c.args.s.now c.args.at 0 ≡ 1 → ⊥ = λ e. omega (arith, flag (goal.at.returns-then-flag-ne1 c).After-part, c.if-flag-ne1.true) in
+pub returns-in_default : goal.returns-in_default
+unfolding begun
+returns-in_default c =
+    let f : get_or c.args.s.now c.args.at 0 ≡ 0 → ⊥ = λ e. omega (arith, flag (goal.at.returns-in_default c).After-part) in
+    let g : get_or c.args.s.now c.args.at 0 ≡ 1 → ⊥ = λ e. omega (arith, flag (goal.at.returns-in_default c).After-part) in
     sym (ap begun (flag_other c.args.s.now c.args.at (omega arith) f g))
 
 pub returns-then-s-at-lt5 : goal.returns-then-s-at-lt5
-unfolding header_says begun
-returns-then-s-at-lt5 c = sym (ap begun (flag_short c.args.s.now c.args.at (omega arith) (omega (arith, flag (goal.at.returns-then-s-at-lt5 c).After-part, c.if-flag-ne1.false)) (omega arith)))
+unfolding begun
+returns-then-s-at-lt5 c = sym (ap begun (flag_short c.args.s.now c.args.at (omega arith) (omega (arith, flag (goal.at.returns-then-s-at-lt5 c).After-part)) (omega arith)))
 
-pub returns : goal.returns
-returns c =
-    c.ends-2.ensures
+pub returns-else-s-at-lt5 : goal.returns-else-s-at-lt5
+returns-else-s-at-lt5 c =
+    c.ends-in-1.ensures
     ∙ ap (λ (n : ℕ). begun (with_bucket_count (Some (record { 0 = n })) (drop (c.args.at + 5) c.args.s.now))) c.number-h.ensures
-    ∙ ap begun (sym (flag_at c.args.s.now c.args.at (omega arith) (omega (arith, flag (goal.at.returns c).After-part, c.if-flag-ne1.false))))
+    ∙ ap begun (sym (flag_at c.args.s.now c.args.at (omega arith) (omega (arith, flag (goal.at.returns-else-s-at-lt5 c).After-part))))

@@ -1,7 +1,7 @@
 use mathlib.Core.Path.{◌≡◌, sym, ap, ◌∙◌}
 use mathlib.Core.Bool.{Bool, ◌&&◌}
 use mathlib.Core.List.{[], ◌∷◌}
-use Prim.Native.Nat.{ℕ, ◌+◌, ◌*◌, ◌-◌, zero-le}
+use Prim.Native.Nat.{ℕ, ◌+◌, ◌*◌, zero-le}
 use native.Mathlib.Omega.{arith}
 use lib.ListN.{drop}
 use Rattle.format.specs.Parts.{is_read}
@@ -30,10 +30,10 @@ bucket_ok-requires c =
     omega (arith, bucket_long c.args.s.now (c.args.at + 408 * c.loop-i.i) c.part-bytes.result.now c.part-bytes.ensures (omega arith))
 
 pub loop-i-preserved : goal.loop-i-preserved
-loop-i-preserved c = (omega arith, told (goal.at.loop-i-preserved c).After-bucket_ok ∙ rw c.if-bucket_ok.true)
+loop-i-preserved c = (omega arith, told (goal.at.loop-i-preserved c).After-bucket_ok ∙ rw c.if-not-bucket_ok.false)
 
-pub returns-else-bucket_ok : goal.returns-else-bucket_ok
-returns-else-bucket_ok c = sym (told (goal.at.returns-else-bucket_ok c).After-bucket_ok ∙ rw c.if-bucket_ok.false)
+pub returns-then-not-bucket_ok : goal.returns-then-not-bucket_ok
+returns-then-not-bucket_ok c = sym (told (goal.at.returns-then-not-bucket_ok c).After-bucket_ok ∙ rw c.if-not-bucket_ok.true)
 
 pub returns : goal.returns
 returns c =

@@ -15,12 +15,12 @@ put_u32-requires-in-Some-2 c =
     let e : height_length c.args.last ≡ 4 = ap height_length c.in-Some.is in
     omega (arith, e)
 
-pub returns-in-Nothing : goal.returns-in-Nothing
-returns-in-Nothing c =
+pub returns-in-None : goal.returns-in-None
+returns-in-None c =
     c.put_u32.ensures
     ∙ ap (λ (l : List ℕ). sets l (c.args.at + 1) (bytes 4 142)) c.put_u8.ensures
     ∙ put_none c.args.out.now c.args.at
-    ∙ ap (λ (l : Last). sets c.args.out.now c.args.at (last_bytes l ++ bytes 4 142)) (sym c.in-Nothing.is)
+    ∙ ap (λ (l : Last). sets c.args.out.now c.args.at (last_bytes l ++ bytes 4 142)) (sym c.in-None.is)
 
 pub returns-in-Some : goal.returns-in-Some
 returns-in-Some c =
