@@ -1,15 +1,13 @@
 -- Whether the fields of records are in range, as a loop from the front finds out; and the test of a table, in the order of the code. Assumes nothing.
-use mathlib.Core.Path.{◌≡◌, refl, sym, subst, ◌∙◌}
+use mathlib.Core.Path.{◌≡◌, refl, sym, ap, ◌∙◌}
 use mathlib.Core.Bool.{Bool, true, false, ◌&&◌}
-use mathlib.Core.List.{List, [], ◌∷◌, map}
-use Prim.Native.Nat.{ℕ, zero, suc, zero-le, ◌+◌, ◌*◌, ◌≤◌, ◌<◌}
+use mathlib.Core.List.{List, [], map}
+use Prim.Native.Nat.{ℕ, ◌+◌, ◌*◌, ◌≤◌, ◌<◌}
 use native.Mathlib.Omega.{arith}
 use borrow.Author.Tests.{leb-true, le-leb, lt-leb}
 use lib.Dec.{leb}
-use native.Mathlib.Nat.{zero-add, not-suc-le-zero, le_of_suc-le-suc}
-use Rattle.std.specs.Bool.{MatchBool}
-use Rattle.std.specs.List.{range_with_len, AllWithin, HoldsAt}
-use Rattle.std.proofs.lemmas.List.FromFn.{length-range_with_len, get_or-range_with_len}
+use Rattle.std.specs.List.{range_with_len}
+use Rattle.std.proofs.lemmas.List.FromFn.{fill_by_all}
 use lib.ListN.{length, get_or, drop}
 use lib.Seq.{slice}
 use Rattle.rules.specs.Lists.{every}
@@ -19,7 +17,7 @@ use Rattle.rules.specs.Ladder.{buckets, last_bucket}
 use Rattle.rules.specs.Counts.{columns}
 use Rattle.rules.specs.Board.{Pending, in_range, pending_of}
 use Rattle.rules.proofs.Records.{and_left, length_records}
-use Rattle.lists.proofs.Lists.{and_true, and_false, every_map, every_next, every_end}
+use Rattle.lists.proofs.Lists.{and_true, every_map, every_next, every_end}
 use Rattle.table.proofs.Records.{cap_room}
 
 -- the rules' test of one record, where its bucket is none, and where it is one
@@ -47,28 +45,12 @@ module _ (size used : ℕ) (xs : List ℕ) where
   pub fine_end : (i : ℕ) → used ≤ i → fine (drop i (records size used xs)) ≡ true
   fine_end i h = every_end (λ b. in_range (pending_of b)) (records size used xs) i (rw length_records h)
 
--- ---- the same of the records' numbers, one after the other
-
-every_all : {A : Type 0} (f : A → Bool) (xs : List A) (d : A) → ((k : ℕ) → k < length xs → f (get_or xs k d) ≡ true) → every f xs ≡ true
-unfolding every
-every_all f [] d h = refl
-every_all f (x ∷ xs) d h = rw (h 0 (omega arith)) (every_all f xs d (λ k l. h (suc k) (omega arith)))
-
-every_not : {A : Type 0} (f : A → Bool) (xs : List A) (k : ℕ) (d : A) → k < length xs → f (get_or xs k d) ≡ false → every f xs ≡ false
-unfolding every
-every_not f [] k d h e = absurd (not-suc-le-zero h)
-every_not f (x ∷ xs) zero d h e = rw e
-every_not f (x ∷ xs) (suc k) d h e = rw (every_not f xs k d (le_of_suc-le-suc h) e) (and_false (f x))
-
-module _ (size used : ℕ) (xs : List ℕ) where
-  -- record i is in range
-  abbrev fine_at : ℕ → Bool
-  fine_at i = in_range (pending_of (get_or (records size used xs) i []))
-
-  pub all_told : (r : Bool) → MatchBool r (AllWithin (λ i. fine_at i ≡ true) (range_with_len 0 used) 0 (length (range_with_len 0 used))) ((k : ℕ) × (k < length (range_with_len 0 used)) × HoldsAt (λ i. fine_at i ≡ false) (range_with_len 0 used) k)
-      → r ≡ every in_range (map pending_of (records size used xs))
-  all_told true h = sym (fine_is (records size used xs) ∙ every_all _ (records size used xs) [] (λ k l. let n : k < used = rw length_records at l in subst (λ i. fine_at i ≡ true) (get_or-range_with_len 0 used k 0 n ∙ zero-add k) (h k 0 zero-le (rw length-range_with_len n))))
-  all_told false h = sym (fine_is (records size used xs) ∙ every_not _ (records size used xs) h.0 [] (rw length_records (rw length-range_with_len at h.1)) (subst (λ i. fine_at i ≡ false) (get_or-range_with_len 0 used h.0 0 (rw length-range_with_len at h.1) ∙ zero-add h.0) (h.2 0)))
+-- the same by the records' numbers
+pub fine_by_number : (size used : ℕ) (xs : List ℕ) → every (λ i. in_range (pending_of (get_or (records size used xs) i []))) (range_with_len 0 used) ≡ every in_range (map pending_of (records size used xs))
+fine_by_number size used xs =
+    let rs = records size used xs in
+    sym (every_map (λ i. get_or rs i []) (λ b. in_range (pending_of b)) (range_with_len 0 used))
+    ∙ ap fine (sym (fill_by_all (λ i. get_or rs i []) rs used [] (length_records size used xs) (λ k h. refl))) ∙ sym (fine_is rs)
 
 -- ---- a table: room and zeros first, then its ids
 

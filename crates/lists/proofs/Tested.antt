@@ -1,10 +1,15 @@
--- A test of every element by a fold, which has no way out. Assumes nothing.
-use mathlib.Core.Path.{◌≡◌, sym, ◌∙◌}
-use mathlib.Core.Bool.{Bool, true, ◌&&◌}
+-- A test of every element by a fold, which has no way out, and by `all`. Assumes nothing.
+use mathlib.Core.Path.{◌≡◌, refl, sym, ◌∙◌}
+use mathlib.Core.Bool.{Bool, true, false, ◌&&◌}
 use mathlib.Core.List.{List, [], ◌∷◌}
-use Rattle.std.specs.List.{fold}
+use Prim.Native.Nat.{ℕ, zero, suc, ◌<◌, zero-le}
+use native.Mathlib.Nat.{not-suc-le-zero, le_of_suc-le-suc}
+use native.Mathlib.Omega.{arith}
+use lib.ListN.{length, get_or}
+use Rattle.std.specs.Bool.{MatchBool}
+use Rattle.std.specs.List.{fold, AllWithin, HoldsAt}
 use Rattle.rules.specs.Lists.{every}
-use Rattle.lists.proofs.Lists.{and_true, and_assoc}
+use Rattle.lists.proofs.Lists.{and_true, and_false, and_assoc}
 
 module _ {A : Type 0} (f : A → Bool) where
   every_from : (ok : Bool) (xs : List A) → fold (λ t x. t && f x) ok xs ≡ ok && every f xs
@@ -14,3 +19,19 @@ module _ {A : Type 0} (f : A → Bool) where
 
   pub every_fold : (xs : List A) → fold (λ t x. t && f x) true xs ≡ every f xs
   every_fold xs = every_from true xs
+
+  each : (xs : List A) → ((k : ℕ) (d : A) → k < length xs → f (get_or xs k d) ≡ true) → every f xs ≡ true
+  unfolding every
+  each [] h = refl
+  each (x ∷ xs) h = rw (h 0 x (omega arith)) (each xs (λ k d l. h (suc k) d (omega arith)))
+
+  one_not : (xs : List A) (k : ℕ) → k < length xs → ((d : A) → f (get_or xs k d) ≡ false) → every f xs ≡ false
+  unfolding every
+  one_not [] k l h = absurd (not-suc-le-zero l)
+  one_not (x ∷ xs) zero l h = rw (h x)
+  one_not (x ∷ xs) (suc k) l h = rw (one_not xs k (le_of_suc-le-suc l) h) (and_false (f x))
+
+  -- what `all` answers
+  pub every_told : (xs : List A) (r : Bool) → MatchBool r (AllWithin (λ x. f x ≡ true) xs 0 (length xs)) ((k : ℕ) × (k < length xs) × HoldsAt (λ x. f x ≡ false) xs k) → r ≡ every f xs
+  every_told xs true h = sym (each xs (λ k d l. h k d zero-le l))
+  every_told xs false h = sym (one_not xs h.0 h.1 h.2)

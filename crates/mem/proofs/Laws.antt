@@ -1,12 +1,13 @@
 -- Laws of four bytes as a number. Assumes nothing.
 use mathlib.Core.Path.{◌≡◌, refl, sym, ap, ◌∙◌}
-use mathlib.Core.List.{List}
-use Prim.Native.Nat.{ℕ, suc, ◌+◌, ◌*◌, ◌/◌, ◌≤◌, ◌<◌}
+use mathlib.Core.List.{List, ◌∷◌}
+use Prim.Native.Nat.{ℕ, zero, suc, ◌+◌, ◌*◌, ◌/◌, ◌%◌, ◌^◌, ◌≤◌, ◌<◌}
 use native.Mathlib.Numerals.{add-one}
 use native.Mathlib.Omega.{arith}
 use lib.ListN.{length, take, drop, get_or}
 use lib.Seq.{drop-cons}
-use Rattle.std.specs.Int.{w32, to_le_bytes}
+use Rattle.std.specs.Int.{bytes_low_first}
+use Rattle.std.proofs.Math.Nat.{pow-suc, div-div-eq-div-mul}
 use Rattle.rules.specs.Bytes.{le, bytes}
 use Rattle.mem.specs.Le.{le_at}
 use Rattle.mem.specs.Be.{be_at}
@@ -39,10 +40,14 @@ be_at_4 s at =
     let e : get_or s (at + 0) 0 ≡ get_or s at 0 = ap (λ (k : ℕ). get_or s k 0) z in
     omega arith
 
--- the library's bytes of a number of four bytes
-pub le_bytes_4 : (v : ℕ) → to_le_bytes w32 v ≡ bytes 4 v
+low_from : (i k n : ℕ) → bytes_low_first (suc i) k n ≡ bytes k (n / 256 ^ suc i)
 unfolding bytes
-le_bytes_4 v =
-    let d : v / 65536 ≡ v / 256 / 256 = omega arith in
-    let e : v / 16777216 ≡ v / 256 / 256 / 256 = omega arith in
-    cc
+low_from i zero n = refl
+low_from i (suc k) n =
+    let e : n / 256 ^ suc (suc i) ≡ n / 256 ^ suc i / 256 = ap (λ (p : ℕ). n / p) (pow-suc 256 (suc i)) ∙ sym (div-div-eq-div-mul n (256 ^ suc i) 256) in
+    ap (λ (l : List ℕ). n / 256 ^ suc i % 256 ∷ l) (low_from (suc i) k n ∙ ap (bytes k) e)
+
+-- the library's bytes of a number, of any width
+pub le_bytes_are : (k n : ℕ) → bytes_low_first 0 (suc k) n ≡ bytes (suc k) n
+unfolding bytes
+le_bytes_are k n = ap (λ (l : List ℕ). n % 256 ∷ l) (low_from 0 k n)

@@ -1,9 +1,9 @@
 use mathlib.Core.Path.{◌≡◌, refl, ap, ◌∙◌}
 use mathlib.Core.List.{List, [], ◌∷◌}
-use Prim.Native.Nat.{ℕ, ◌+◌, ◌*◌, zero-le}
+use Prim.Native.Nat.{ℕ, ◌+◌, ◌*◌}
 use native.Mathlib.Omega.{arith}
-use lib.ListN.{length, drop}
-use lib.Seq.{sets, length-sets}
+use lib.ListN.{drop}
+use lib.Seq.{sets}
 use Rattle.rules.specs.Ladder.{ladder}
 use Rattle.format.specs.File.{rates, rates_from, bucket_bytes}
 use Rattle.codec.proofs.Written.{sound_long, sound_row, some_buckets, buckets_more}
@@ -11,7 +11,7 @@ use Rattle.codec.proofs.buckets.put_buckets.Goals as goal
 
 pub loop-i-init : goal.loop-i-init
 unfolding rates_from bucket_bytes
-loop-i-init c = (zero-le, (refl, refl))
+loop-i-init c = refl
 
 pub put_bucket-requires : goal.put_bucket-requires
 put_bucket-requires c =
@@ -20,18 +20,13 @@ put_bucket-requires c =
 
 pub loop-i-preserved : goal.loop-i-preserved
 loop-i-preserved c =
-    let e : c.put_bucket.new.out ≡ sets c.args.out.now c.args.at (some_buckets (c.loop-i.i + 1) c.args.confirmed.now c.args.resolved.now) =
     c.put_bucket.ensures
     ∙ ap (λ (r : ℕ). sets c.loop-i.out (c.args.at + 408 * c.loop-i.i) (bucket_bytes (r ∷ []) (drop (25 * c.loop-i.i) c.args.confirmed.now) (drop (25 * c.loop-i.i) c.args.resolved.now))) c.rate_at.ensures
-    ∙ ap (λ (o : List ℕ). sets o (c.args.at + 408 * c.loop-i.i) (bucket_bytes (ladder c.loop-i.i ∷ []) (drop (25 * c.loop-i.i) c.args.confirmed.now) (drop (25 * c.loop-i.i) c.args.resolved.now))) c.loop-i.invariant.1.1
-    ∙ buckets_more c.args.out.now c.args.at c.loop-i.i c.args.confirmed.now c.args.resolved.now (omega arith) (sound_long c.args.confirmed.now c.requires.confirmed_value.0) (sound_long c.args.resolved.now c.requires.confirmed_value.1) in
-    (omega arith, (ap length e ∙ simp length-sets, e))
-
-pub shape_of-out : goal.shape_of-out
-shape_of-out c = c.loop-i.invariant.1.0
+    ∙ ap (λ (o : List ℕ). sets o (c.args.at + 408 * c.loop-i.i) (bucket_bytes (ladder c.loop-i.i ∷ []) (drop (25 * c.loop-i.i) c.args.confirmed.now) (drop (25 * c.loop-i.i) c.args.resolved.now))) c.loop-i.invariant
+    ∙ buckets_more c.args.out.now c.args.at c.loop-i.i c.args.confirmed.now c.args.resolved.now (omega arith) (sound_long c.args.confirmed.now c.requires.confirmed_value.0) (sound_long c.args.resolved.now c.requires.confirmed_value.1)
 
 pub returns : goal.returns
 unfolding rates
 returns c =
     let e : c.loop-i.i ≡ 142 = omega arith in
-    c.loop-i.invariant.1.1 ∙ ap (λ (k : ℕ). sets c.args.out.now c.args.at (some_buckets k c.args.confirmed.now c.args.resolved.now)) e
+    c.loop-i.invariant ∙ ap (λ (k : ℕ). sets c.args.out.now c.args.at (some_buckets k c.args.confirmed.now c.args.resolved.now)) e

@@ -1,14 +1,9 @@
--- `codec::numbers::put_u64` meets its contract: a number of eight bytes is put in two halves. Assumes nothing.
-use mathlib.Core.Path.{ap, ◌∙◌}
-use mathlib.Core.List.{List}
-use Prim.Native.Nat.{ℕ, ◌+◌, ◌/◌}
-use lib.Seq.{sets}
-use Rattle.rules.specs.Bytes.{bytes}
-use Rattle.codec.proofs.InTwo.{put_two}
+use mathlib.Core.Path.{◌∙◌}
+use native.Mathlib.Omega.{arith}
+use Rattle.rules.proofs.Bytes.{length_bytes}
+use Rattle.mem.proofs.Laws.{le_bytes_are}
+use Rattle.mem.proofs.Moved.{put_sets}
 use Rattle.codec.proofs.numbers.put_u64.Goals as goal
 
 pub returns : goal.returns
-returns c =
-    c.put_u32-2.ensures
-    ∙ ap (λ (l : List ℕ). sets l (c.args.at + 4) (bytes 4 (c.args.v / 4294967296))) c.put_u32.ensures
-    ∙ put_two 4 4 c.args.s.now c.args.at c.args.v
+returns c = put_sets _ _ _ _ _ (c.copy_from_slice.ensures.after ∙ c.to_le_bytes.ensures ∙ le_bytes_are 7 c.args.v) (omega (arith, length_bytes 8 c.args.v)) (omega arith)

@@ -1,8 +1,8 @@
 use mathlib.Core.Path.{◌≡◌, refl, ap, ◌∙◌}
-use Prim.Native.Nat.{ℕ, ◌+◌, ◌*◌, ◌-◌, zero-le}
+use Prim.Native.Nat.{ℕ, ◌+◌, ◌*◌}
 use native.Mathlib.Omega.{arith}
-use lib.ListN.{length, take, drop, get_or}
-use lib.Seq.{sets, length-sets}
+use lib.ListN.{take, drop, get_or}
+use lib.Seq.{sets}
 use mathlib.Core.List.{List}
 use lib.Ieee.{binary64, to_bits, nan}
 use Rattle.rules.specs.Bytes.{bytes}
@@ -14,7 +14,7 @@ use Rattle.codec.proofs.rows.put_row.Goals as goal
 
 pub loop-i-init : goal.loop-i-init
 unfolding row_bytes joined
-loop-i-init c = (zero-le, (refl, refl))
+loop-i-init c = refl
 
 pub float_to_bits-counts : goal.float_to_bits-counts
 float_to_bits-counts c =
@@ -23,16 +23,11 @@ float_to_bits-counts c =
 pub loop-i-preserved : goal.loop-i-preserved
 loop-i-preserved c =
     let x = to_bits binary64 (get_or c.args.counts.now (c.args.from + c.loop-i.i) nan) in
-    let e : c.put_u64.new.s ≡ sets c.args.out.now c.args.at (row_bytes (take (c.loop-i.i + 1) (drop c.args.from c.args.counts.now))) =
     c.put_u64.ensures
-    ∙ ap (λ (o : List ℕ). sets o (c.args.at + 8 * c.loop-i.i) (bytes 8 x)) c.loop-i.invariant.1.1
-    ∙ put_more c.args.out.now c.args.at c.args.counts.now c.args.from c.loop-i.i (omega arith) in
-    (omega arith, (ap length e ∙ simp length-sets, e))
-
-pub shape_of-out : goal.shape_of-out
-shape_of-out c = c.loop-i.invariant.1.0
+    ∙ ap (λ (o : List ℕ). sets o (c.args.at + 8 * c.loop-i.i) (bytes 8 x)) c.loop-i.invariant
+    ∙ put_more c.args.out.now c.args.at c.args.counts.now c.args.from c.loop-i.i (omega arith)
 
 pub returns : goal.returns
 returns c =
     let e : c.loop-i.i ≡ 25 = omega arith in
-    c.loop-i.invariant.1.1 ∙ ap (λ (k : ℕ). sets c.args.out.now c.args.at (row_bytes (take k (drop c.args.from c.args.counts.now)))) e
+    c.loop-i.invariant ∙ ap (λ (k : ℕ). sets c.args.out.now c.args.at (row_bytes (take k (drop c.args.from c.args.counts.now)))) e

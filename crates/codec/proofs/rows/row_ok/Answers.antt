@@ -1,20 +1,18 @@
-use mathlib.Core.Path.{sym, ◌∙◌}
-use Prim.Native.Nat.{◌-◌, zero-le}
+use mathlib.Core.Path.{◌≡◌, refl, ◌∙◌}
+use mathlib.Core.Bool.{Bool, true, false}
+use Prim.Native.Nat.{ℕ}
 use native.Mathlib.Omega.{arith}
-use Rattle.codec.proofs.Counts.{rest_begin, rest_next, rest_end}
+use Rattle.std.specs.List.{range_with_len}
+use Rattle.std.proofs.Common.{rules, tests}
+use Rattle.std.proofs.lemmas.Iterator.{YieldsList-from_range, cases_from_all}
+use Rattle.rules.specs.Counts.{sound_count}
+use Rattle.lists.proofs.Tested.{every_told}
+use Rattle.codec.proofs.Counts.{double, row_by_number}
 use Rattle.codec.proofs.rows.row_ok.Goals as goal
-
-pub loop-i-init : goal.loop-i-init
-loop-i-init c = (zero-le, rest_begin c.args.s.now c.args.at (omega arith))
-
-pub loop-i-preserved : goal.loop-i-preserved
-loop-i-preserved c =
-    (omega arith, c.loop-i.invariant.1 ∙ rest_next c.args.s.now c.args.at c.loop-i.i c.u64_le.result (omega arith) c.u64_le.ensures ∙ simp (sym c.is_count.ensures ∙ c.if-is_count.true))
-
-pub returns-else-is_count : goal.returns-else-is_count
-returns-else-is_count c =
-    sym (c.loop-i.invariant.1 ∙ rest_next c.args.s.now c.args.at c.loop-i.i c.u64_le.result (omega arith) c.u64_le.ensures ∙ simp (sym c.is_count.ensures ∙ c.if-is_count.false))
 
 pub returns : goal.returns
 returns c =
-    sym (c.loop-i.invariant.1 ∙ rest_end c.args.s.now c.args.at c.loop-i.i (omega arith))
+    let f : ℕ → Bool = λ i. sound_count (double c.args.s.now c.args.at i) in
+    every_told f (range_with_len 0 25) _
+    (cases_from_all _ _ _ (λ i. f i ≡ true) (λ i. f i ≡ false) c.all.ensures.ran (YieldsList-from_range 0 25 25 refl refl) (λ x q k. search (rules, tests)) (λ x q k. search (rules, tests)))
+    ∙ row_by_number c.args.s.now c.args.at (omega arith)
