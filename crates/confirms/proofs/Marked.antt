@@ -2,13 +2,13 @@
 use mathlib.Core.Path.{◌≡◌, refl, sym, ap, ap₂, ◌∙◌}
 use mathlib.Core.Bool.{Bool, true, false, cond}
 use mathlib.Core.List.{List, [], ◌∷◌, ◌++◌, map}
-use Prim.Native.Nat.{ℕ, ◌+◌, ◌≤◌, ◌<◌}
+use Prim.Native.Nat.{ℕ, ◌+◌, ◌≤◌}
 use native.Mathlib.Nat.{not-suc-le-zero, le_of_suc-le-suc}
 use native.Mathlib.Omega.{arith}
 use lib.Dec.{eqb}
-use lib.ListN.{length, take, drop, get_or, length-map, length-take}
-use lib.Seq.{take_at, length-take-le, get_or-take}
-use Rattle.rules.specs.Lists.{bit, count}
+use lib.ListN.{length, take, length-map}
+use lib.Seq.{take_at}
+use Rattle.rules.specs.Lists.{bit}
 use Rattle.rules.specs.Ids.{Id}
 use Rattle.rules.specs.Records.{records, id_of}
 use Rattle.rules.specs.Board.{Board, Lawful, Pending}
@@ -17,7 +17,8 @@ use Rattle.batch.specs.Batch.{marked, unmarked}
 use Rattle.batch.specs.Picked.{picked}
 use Rattle.batch.proofs.Picked.{picked_keep, picked_others, picked_take}
 use Rattle.marks.specs.Marks.{beside}
-use Rattle.lists.proofs.Loop.{count_next, count_end}
+use Rattle.std.specs.Prelude.{count_by}
+use Rattle.std.proofs.lemmas.List.Sums.{sum_by-cons}
 
 module _ (k : Board) (law : Lawful k) (mark : Id → Bool) where
   -- a mark by the bytes is one by the record
@@ -47,24 +48,13 @@ module _ (k : Board) (law : Lawful k) (mark : Id → Bool) where
     picks_others = by_marks 0 ∙ picked_others (λ r. mark r.id) rs
 
 -- as many as there are such marks
-pub picked_count : {A : Type 0} (w : ℕ) (ms : List ℕ) (rs : List A) → length rs ≤ length ms → length (picked w ms rs) ≡ count (λ m. eqb m w) (take (length rs) ms)
-unfolding picked count
+pub picked_count : {A : Type 0} (w : ℕ) (ms : List ℕ) (rs : List A) → length rs ≤ length ms → length (picked w ms rs) ≡ count_by (λ m. eqb m w) (take (length rs) ms)
+unfolding picked
 picked_count w [] [] h = refl
 picked_count w [] (r ∷ rs) h = absurd (not-suc-le-zero h)
 picked_count w (m ∷ ms) [] h = refl
-picked_count w (m ∷ ms) (r ∷ rs) h = go (eqb m w) (picked_count w ms rs (le_of_suc-le-suc h))
+picked_count w (m ∷ ms) (r ∷ rs) h = go (eqb m w) (picked_count w ms rs (le_of_suc-le-suc h)) ∙ sym (sum_by-cons (λ m. cond (eqb m w) 1 0) m (take (length rs) ms))
   where
-    go : (t : Bool) → length (picked w ms rs) ≡ count (λ m. eqb m w) (take (length rs) ms) → length (cond t (r ∷ picked w ms rs) (picked w ms rs)) ≡ bit t + count (λ m. eqb m w) (take (length rs) ms)
+    go : (t : Bool) → length (picked w ms rs) ≡ count_by (λ m. eqb m w) (take (length rs) ms) → length (cond t (r ∷ picked w ms rs) (picked w ms rs)) ≡ cond t 1 0 + count_by (λ m. eqb m w) (take (length rs) ms)
     go true e = omega arith
     go false e = omega arith
-
--- ---- the marks of 1 from place i on, among the first n
-
-module _ (n : ℕ) (ms : List ℕ) where
-  pub mark_next : (i : ℕ) → i < n → n ≤ length ms → count (λ m. eqb m 1) (drop i (take n ms)) ≡ bit (eqb (get_or ms i 0) 1) + count (λ m. eqb m 1) (drop (i + 1) (take n ms))
-  mark_next i h l =
-      count_next (λ m. eqb m 1) (take n ms) i 0 (omega (arith, length-take-le n ms l))
-      ∙ ap (λ (m : ℕ). bit (eqb m 1) + count (λ m. eqb m 1) (drop (i + 1) (take n ms))) (get_or-take n ms i 0 h)
-
-  pub mark_end : (i : ℕ) → n ≤ i → count (λ m. eqb m 1) (drop i (take n ms)) ≡ 0
-  mark_end i h = count_end (λ m. eqb m 1) (take n ms) i (omega (arith, length-take n ms))

@@ -9,7 +9,7 @@ use lib.ListN.{length, take, drop}
 use Rattle.kinds.specs.declared.Horizon.{Horizon}
 use Rattle.kinds.specs.declared.State.{State}
 use Rattle.kinds.specs.Answers.{done}
-use Rattle.rules.specs.Lists.{count}
+use Rattle.std.specs.Prelude.{count_by}
 use Rattle.rules.specs.Ids.{Id}
 use Rattle.rules.specs.Counts.{places_of_counts}
 use Rattle.rules.specs.Records.{records, id_of, sound_table, laid}
@@ -102,12 +102,12 @@ module _ (k : Board) (law : Lawful k) (B : ℕ) (small : B < 256 ^ 4) (s : State
   unfolding unmarked
   few = omega (arith, ap length (picks_others k law (listed ids) n s.pending l.pending ms rest size marking), length_keep (λ r. not (listed ids r.id)) rs, pending_length k s.pending l.pending)
 
-  module _ (fresh : ℕ) (enough : s.pending ≤ length ns) (counting : fresh ≡ count (λ w. eqb w 1) (take s.pending ns))
+  module _ (fresh : ℕ) (enough : s.pending ≤ length ns) (counting : fresh ≡ count_by (λ w. eqb w 1) (take s.pending ns))
       (room : length (confirm_all k B ids (view k s l)).recent ≤ confirmed_capacity l.recent) where
     many : fresh ≡ length (picked 1 ns (records n s.pending l.pending))
     many =
         let e : length (records n s.pending l.pending) ≡ s.pending = length_records n s.pending l.pending in
-        counting ∙ sym (picked_count 1 ns (records n s.pending l.pending) (omega arith) ∙ ap (λ (j : ℕ). count (λ w. eqb w 1) (take j ns)) e)
+        counting ∙ sym (picked_count 1 ns (records n s.pending l.pending) (omega arith) ∙ ap (λ (j : ℕ). count_by (λ w. eqb w 1) (take j ns)) e)
 
     all_many : s.recent + fresh ≡ length all
     all_many = as_many k law s l ready B small gone m.recent heights n fresh ns (fresh_of gone cs) size new many

@@ -1,9 +1,8 @@
 // The listed ids of a block, all at once: those that are pending go to the confirmed records, and are counted.
 #![tactic(auto)]
 
-ghost use Rattle.std.specs.Prelude.{◌≡◌, ◌≤◌, eqb, length, take};
+ghost use Rattle.std.specs.Prelude.{◌≡◌, ◌≤◌, ◌==◌, length, take, count_by};
 ghost use Rattle.kinds.specs.Answers.{done};
-ghost use Rattle.rules.specs.Lists.{count};
 ghost use Rattle.rules.specs.Board.{board_of};
 ghost use Rattle.rules.specs.Estimator.{confirm_all};
 ghost use Rattle.rules.specs.Memory.{view, confirmed_capacity};
@@ -11,7 +10,7 @@ ghost use Rattle.rules.specs.Slices.{given, before, after};
 ghost use Rattle.rules.specs.Calls.{outcome, accepted, ids_of};
 ghost use Rattle.ready.specs.Ready.{Ready};
 
-use kinds::{Height, Horizon, State};
+use kinds::{Height, Horizon, ID_SIZE, State};
 use marks::{drop_marked, mark_listed, no_marks};
 use merges::merge;
 use settles::settle_all;
@@ -19,17 +18,9 @@ use settles::settle_all;
 // How many of the first `used` marks are 1.
 fn count_new(marks: &[u8], used: usize) -> usize
     requires { used ≤ length marks.now }
-    ensures { result ≡ count (λ m. eqb m 1) (take used marks.now) }
+    ensures { result ≡ count_by (λ m. m == 1) (take used marks.now) }
 {
-    let mut n: usize = 0;
-    let mut i: usize = 0;
-    while i < used {
-        if marks[i] == 1 {
-            n += 1;
-        }
-        i += 1;
-    }
-    n
+    marks[..used].iter().filter(|m| **m == 1).count()
 }
 
 // Confirms the listed ids at h.
@@ -50,10 +41,9 @@ pub fn confirm_all(
         ≡ accepted (board_of on) (confirm_all (board_of on) h.0 (ids_of ids.now) (view (board_of on) state (before confirmed resolved pending recent)))
         (before confirmed resolved pending recent) }
 {
-    if ids.len() < 32 {
+    if ids.len() < ID_SIZE {
         return state;
     }
-    let last = state.last;
     let used = state.pending;
     let kept = state.recent;
     let size = boards::record_size(on);
@@ -66,7 +56,7 @@ pub fn confirm_all(
     merge(pending, size, used, &marks, recent, kept, fresh, h);
     let left = drop_marked(pending, size, used, &marks);
     State {
-        last: last,
+        last: state.last,
         pending: left,
         recent: kept + fresh,
     }

@@ -9,7 +9,8 @@ use lib.ListN.{length, take, drop}
 use Rattle.rules.specs.Ids.{Id, below}
 use Rattle.rules.proofs.All.{All, none, more}
 use Rattle.rules.proofs.Ids.{Up, end, step, below_asym, all_above}
-use Rattle.ids.specs.Search.{cmp, is_less, decide, find_from}
+use Rattle.std.specs.Ordering.{is_lt}
+use Rattle.ids.specs.Search.{cmp, decide, find_from}
 use Rattle.std.specs.declared.cmp.Ordering.{Ordering}
 use Rattle.std.specs.declared.cmp.Ordering.TheVariants.{Less, Equal, Greater}
 use Rattle.ids.specs.Search.{Found}
@@ -24,7 +25,7 @@ module _ {A : Type 0} (id : A → Id) (x : A) where
     pub high : All (λ c. below (id x) (id c) ≡ true) (drop i cs)
 
   not_below_self : below (id x) (id x) ≡ false
-  not_below_self = below_cmp_is (id x) (id x) ∙ ap is_less (cmp_refl (id x))
+  not_below_self = below_cmp_is (id x) (id x) ∙ ap is_lt (cmp_refl (id x))
 
   ranked_from : (k : ℕ) {cs : List A} → Up id cs → (i : ℕ) × ((rank_of (find_from (id x) k (map id cs)) ≡ k + i) × Ranked cs i)
   unfolding find_from
@@ -34,7 +35,7 @@ module _ {A : Type 0} (id : A → Id) (x : A) where
       go : (o : Ordering) → cmp (id c) (id x) ≡ o → (i : ℕ) × ((rank_of (find_from (id x) (suc k) (map id cs)) ≡ suc k + i) × Ranked cs i)
           → (i : ℕ) × ((rank_of (decide o (find_from (id x) (suc k) (map id cs)) (Ok k) (Err k)) ≡ k + i) × Ranked (c ∷ cs) i)
       go Less e t =
-          let no : below (id x) (id c) ≡ false = below_asym (id c) (id x) (below_cmp_is (id c) (id x) ∙ ap is_less e) in
+          let no : below (id x) (id c) ≡ false = below_asym (id c) (id x) (below_cmp_is (id c) (id x) ∙ ap is_lt e) in
           (suc t.0, (omega (arith, t.1.0), record { low = more no t.1.1.low; high = t.1.1.high }))
       go Equal e t =
           let q : id c ≡ id x = cmp_equal (id c) (id x) e in

@@ -92,11 +92,11 @@ module _ (size used kept fresh B : ℕ) (ps ms xs : List ℕ) where
           long = refl;
         }
 
-    -- while new records are to come there are places to look at
-    pub place_left : {a : List ℕ} {n l j : ℕ} → Merging a n l j → 0 < l → 0 < j
+    -- where no place is left no new record is to come
+    pub none_left : {a : List ℕ} {n l j : ℕ} → Merging a n l j → j ≡ 0 → l ≡ 0
     unfolding picked
-    place_left {j = zero} v h = absurd (omega (arith, v.counts))
-    place_left {j = suc j} v h = omega arith
+    none_left {j = zero} v e = omega (arith, v.counts)
+    none_left {j = suc j} v e = absurd (omega arith)
 
     -- the table and its records are within the bytes
     pub table_fits : {a : List ℕ} {n l j : ℕ} → Merging a n l j → (n + l) * confirmed_size ≤ length a

@@ -10,8 +10,7 @@ ghost use Rattle.batch.specs.Batch.{merged};
 ghost use Rattle.batch.specs.Picked.{picked};
 ghost use Rattle.merges.specs.New.{at_height, rank_of, opened, Given};
 
-use ids::Found;
-use kinds::{CONFIRMED_SIZE, HEIGHT_AT, Height};
+use kinds::{CONFIRMED_SIZE, HEIGHT_AT, Height, ID_SIZE};
 
 // How many of the first `n` confirmed records do not stand above the id.
 fn rank(recent: &[u8], n: usize, id: &[u8]) -> usize
@@ -21,8 +20,8 @@ fn rank(recent: &[u8], n: usize, id: &[u8]) -> usize
     ensures { result ≡ rank_of (find_in id.now (map id_of (records confirmed_size n recent.now))) }
 {
     match ids::find(recent, CONFIRMED_SIZE, n, id) {
-        Found::At(i) => i + 1,
-        Found::Gap(i) => i,
+        Ok(i) => i + 1,
+        Err(i) => i,
     }
 }
 
@@ -73,13 +72,13 @@ pub fn merge(
 {
     let mut n = kept;
     let mut left = fresh;
-    let mut j = used;
-    while 0 < left {
-        j -= 1;
+    for j in (0..used).rev() {
+        if left == 0 {
+            break;
+        }
         if marks[j] == 1 {
             let at = j * size;
-            let end = at + 32;
-            n = place(recent, n, left, &table[at..end], h);
+            n = place(recent, n, left, &table[at..at + ID_SIZE], h);
             left -= 1;
         }
     }

@@ -1,11 +1,11 @@
 -- The last skipped height decides what the skipped heights leave; and of confirmed records a least height does. Assumes nothing.
-use mathlib.Core.Path.{◌≡◌, refl, sym, ap, ap₂, ◌∙◌, fun_ext}
+use mathlib.Core.Path.{◌≡◌, refl, sym, ap₂, fun_ext}
 use mathlib.Core.Bool.{Bool, true, false, not, ◌&&◌, ◌||◌, cond}
 use mathlib.Core.List.{List}
-use Prim.Native.Nat.{ℕ, suc, ◌-◌, ◌≤◌, ◌<◌, max}
+use Prim.Native.Nat.{ℕ, ◌-◌, max}
 use native.Mathlib.Omega.{arith}
 use lib.Dec.{leb, ltb}
-use borrow.Author.Tests.{leb-true, leb-false, le-leb, lt-leb, ltb-true, ltb-false, lt-ltb, le-ltb}
+use borrow.Author.Tests.{leb-true, leb-false, le-leb, lt-leb}
 use Rattle.kinds.specs.declared.Height.{Height}
 use Rattle.kinds.specs.Last.{Last}
 use Rattle.std.specs.Prelude.{None, Some}
@@ -17,55 +17,18 @@ use Rattle.rules.specs.Estimator.{outwaited, prune_window}
 use Rattle.batch.specs.Needed.{listed, skips, stays, lasts, still_held, adds_one}
 use Rattle.room.specs.Room.{last_skipped, least_height, lasts_through, held_above, comes_new}
 
--- ---- which it is
-
-module _ (last : Last) (B : ℕ) where
-  pub no_last : last ≡ None → None ≡ last_skipped last B
-  unfolding last_skipped skips
-  no_last e = sym (rw e)
-
-  pub none_skipped : {low : Height} → last ≡ Some low → B - 1 ≤ low.0 → None ≡ last_skipped last B
-  unfolding last_skipped skips
-  none_skipped {low} e h = sym (rw (e, le-ltb (suc low.0) B (omega arith)))
-
-  pub some_skipped : {low : Height} → last ≡ Some low → low.0 < B - 1 → Some (record { 0 = B - 1 }) ≡ last_skipped last B
-  unfolding last_skipped skips
-  some_skipped {low} e h = sym (rw (e, lt-ltb (suc low.0) B (omega arith)))
-
 -- ---- what the code finds out by it
 
 module _ (skipped : Last) where
-  pub least_none : skipped ≡ None → 0 ≡ least_height skipped
-  unfolding least_height
-  least_none e = sym (rw e)
-
-  pub least_some : {h : Height} (n : ℕ) → skipped ≡ Some h → n ≡ h.0 - prune_window → n ≡ least_height skipped
-  unfolding least_height
-  least_some n e q = q ∙ sym (ap least_height e)
-
   module _ (k : Board) (r : Pending) where
     pub lasts_none : skipped ≡ None → true ≡ lasts_through k skipped r
     unfolding lasts_through
     lasts_none e = sym (rw e)
 
     -- t is the record's resolved-through, and o what it has outwaited
-    module _ {h : Height} (t o : ℕ) (e : skipped ≡ Some h) (et : t ≡ r.through) (eo : o ≡ outwaited k h.0 r) where
-      pub resolved_all : columns ≤ t → false ≡ lasts_through k skipped r
-      unfolding lasts_through
-      resolved_all l =
-          let m : columns ≤ max r.through (outwaited k h.0 r) = omega arith in
-          sym (rw (e, le-ltb _ _ m))
-
-      pub some_left : t < columns → ltb o columns ≡ lasts_through k skipped r
-      unfolding lasts_through
-      some_left l = rw e (go (ltb o columns) refl)
-        where
-          both : ℕ
-          both = max r.through (outwaited k h.0 r)
-
-          go : (b : Bool) → ltb o columns ≡ b → b ≡ ltb both columns
-          go true q = sym (lt-ltb both columns (omega (arith, ltb-true o columns q)))
-          go false q = sym (le-ltb both columns (omega (arith, ltb-false o columns q)))
+    pub lasts_some : {h : Height} (t o : ℕ) → skipped ≡ Some h → t ≡ r.through → o ≡ outwaited k h.0 r → ltb (max t o) columns ≡ lasts_through k skipped r
+    unfolding lasts_through
+    lasts_some t o e et eo = rw (e, et, eo)
 
 -- ---- what it leaves
 

@@ -7,8 +7,8 @@ ghost use Rattle.rules.specs.Memory.{pending_records, confirmed_records};
 ghost use Rattle.room.specs.Room.{held_above, comes_new, marked_count};
 
 use crate::skipped::{lasts, least_height};
-use ids::{Found, find};
-use kinds::{CONFIRMED_SIZE, Height, Horizon, Last};
+use ids::find;
+use kinds::{CONFIRMED_SIZE, Height, Horizon, ID_SIZE};
 use table::height_at;
 
 // How many confirmed records have at least the height.
@@ -21,13 +21,10 @@ pub(crate) fn count_staying(recent: &[u8], kept: usize, least: Height) -> usize
         return kept;
     }
     let mut n: usize = 0;
-    let mut i: usize = 0;
-    while i < kept {
-        let h = height_at(recent, kept, i);
-        if low <= h.0 {
+    for i in 0..kept {
+        if low <= height_at(recent, kept, i).0 {
             n += 1;
         }
-        i += 1;
     }
     n
 }
@@ -39,11 +36,8 @@ fn held_above(recent: &[u8], kept: usize, id: &[u8], least: Height) -> bool
     ensures { result ≡ held_above least.0 (confirmed_records kept recent.now) id.now }
 {
     match find(recent, CONFIRMED_SIZE, kept, id) {
-        Found::At(i) => {
-            let h = height_at(recent, kept, i);
-            least.0 <= h.0
-        }
-        Found::Gap(_) => false,
+        Ok(i) => least.0 <= height_at(recent, kept, i).0,
+        Err(_) => false,
     }
 }
 
@@ -55,7 +49,7 @@ fn adds_one(
     mark: u8,
     recent: &[u8],
     kept: usize,
-    skipped: Last,
+    skipped: Option<Height>,
     on: Horizon,
 ) -> bool
     requires i_lt_used { (i < used) × (sound_table (board_of on).table.size pending_most used pending.now ≡ true) }
@@ -71,8 +65,12 @@ fn adds_one(
         return false;
     }
     let at = i * boards::record_size(on);
-    let end = at + 32;
-    !held_above(recent, kept, &pending[at..end], least_height(skipped))
+    !held_above(
+        recent,
+        kept,
+        &pending[at..at + ID_SIZE],
+        least_height(skipped),
+    )
 }
 
 // How many pending records make one confirmed record more.
@@ -82,7 +80,7 @@ pub(crate) fn count_new(
     recent: &[u8],
     kept: usize,
     marks: &[u8],
-    skipped: Last,
+    skipped: Option<Height>,
     on: Horizon,
 ) -> usize
     requires pending_value { sound_table (board_of on).table.size pending_most used pending.now ≡ true }
@@ -91,12 +89,10 @@ pub(crate) fn count_new(
     ensures { result ≡ marked_count (comes_new (board_of on) skipped (confirmed_records kept recent.now)) marks.now (pending_records (board_of on) used pending.now) }
 {
     let mut n: usize = 0;
-    let mut i: usize = 0;
-    while i < used {
+    for i in 0..used {
         if adds_one(pending, used, i, marks[i], recent, kept, skipped, on) {
             n += 1;
         }
-        i += 1;
     }
     n
 }

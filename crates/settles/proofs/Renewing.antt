@@ -23,6 +23,7 @@ use Rattle.table.proofs.View.{at_any, gap_any}
 use Rattle.by_id.proofs.ById.{held, not_held, noted_again}
 use Rattle.batch.specs.Batch.{is_confirmed, renewed}
 use Rattle.batch.proofs.Settling.{renewed_is, raised_held, raised_absent, raised_become}
+use Rattle.settles.specs.declared.Held.TheVariants.{Exactly, Another, Nothing}
 use Rattle.settles.specs.Settled.{looked}
 
 module _ (i : Id) (used n : ℕ) (xs : List ℕ) (s : sound_table confirmed_size confirmed_most used xs ≡ true) (B : ℕ) where
@@ -57,21 +58,21 @@ module _ (i : Id) (used n : ℕ) (xs : List ℕ) (s : sound_table confirmed_size
 
   -- it holds exactly B
   pub looked_same : T (are_bytes xs) → find_in i (map id_of bs) ≡ Ok n → (old : ℕ) → old ≡ (confirmed_of (get_or bs n [])).height → old ≡ B
-      → (0 ≡ looked B i cs) × (xs ≡ lay_confirmed (renewed B i cs) xs)
+      → (Exactly ≡ looked B i cs) × (xs ≡ lay_confirmed (renewed B i cs) xs)
   looked_same b f old e q =
       let h : holds i B cs ≡ true = sym (held i used n xs s B f old e) ∙ eq-eqb old B q in
-      (sym (ap (λ (t : Bool). cond t 0 (cond (is_confirmed i cs) 2 1)) h), unchanged b (renewed_is B some_of cs ∙ raised_held B some_of up h))
+      (sym (ap (λ (t : Bool). cond t Exactly (cond (is_confirmed i cs) Another Nothing)) h), unchanged b (renewed_is B some_of cs ∙ raised_held B some_of up h))
 
   -- it gets B
   pub looked_older : (ys : List ℕ) → T (are_bytes ys) → B < 256 ^ 4 → find_in i (map id_of bs) ≡ Ok n → (old : ℕ) → old ≡ (confirmed_of (get_or bs n [])).height → (old ≡ B → ⊥)
       → ys ≡ laid confirmed_size used (set bs n (with_field 32 B (get_or bs n []))) xs
-      → (2 ≡ looked B i cs) × (ys ≡ lay_confirmed (renewed B i cs) xs)
+      → (Another ≡ looked B i cs) × (ys ≡ lay_confirmed (renewed B i cs) xs)
   looked_older ys b small f old e q w =
       let h : holds i B cs ≡ false = sym (held i used n xs s B f old e) ∙ ne_eqb old B q in
       let k : renewed B i cs ≡ become i B cs = renewed_is B some_of cs ∙ raised_become B some_of up (there f) in
-      (sym (ap₂ (λ (t u : Bool). cond t 0 (cond u 2 1)) h (there f)), noted_again i used n xs s B ys b small f w ∙ ap (λ (l : List Confirmed). lay_confirmed l xs) (sym k))
+      (sym (ap₂ (λ (t u : Bool). cond t Exactly (cond u Another Nothing)) h (there f)), noted_again i used n xs s B ys b small f w ∙ ap (λ (l : List Confirmed). lay_confirmed l xs) (sym k))
 
   -- there is none
-  pub looked_none : T (are_bytes xs) → find_in i (map id_of bs) ≡ Err n → (1 ≡ looked B i cs) × (xs ≡ lay_confirmed (renewed B i cs) xs)
+  pub looked_none : T (are_bytes xs) → find_in i (map id_of bs) ≡ Err n → (Nothing ≡ looked B i cs) × (xs ≡ lay_confirmed (renewed B i cs) xs)
   looked_none b f =
-      (sym (ap₂ (λ (t u : Bool). cond t 0 (cond u 2 1)) (sym (not_held i used n xs s B f)) (missing f)), unchanged b (renewed_is B some_of cs ∙ raised_absent B some_of up (missing f)))
+      (sym (ap₂ (λ (t u : Bool). cond t Exactly (cond u Another Nothing)) (sym (not_held i used n xs s B f)) (missing f)), unchanged b (renewed_is B some_of cs ∙ raised_absent B some_of up (missing f)))

@@ -5,12 +5,14 @@ use Rattle.rules.specs.Counts.{Counts, gain}
 use Rattle.rules.specs.Board.{Board, Pending, Confirmed}
 use Rattle.rules.specs.Estimator.{Estimator, holds}
 use Rattle.rules.specs.Memory.{Lent, lay_confirmed}
+use Rattle.settles.specs.declared.Held.{Held}
+use Rattle.settles.specs.declared.Held.TheVariants.{Exactly, Another, Nothing}
 use Rattle.batch.specs.Batch.{gains, in_time, unresolved, is_confirmed, raised, fresh_of, counted}
 use Rattle.batch.specs.Picked.{picked}
 
--- what a look at the confirmed record of i tells: 0 if it holds exactly B, 1 if there is none, 2 if it holds another height
-abbrev pub looked : ℕ → Id → List Confirmed → ℕ
-looked B i cs = cond (holds i B cs) 0 (cond (is_confirmed i cs) 2 1)
+-- what a look at the confirmed record of i tells
+abbrev pub looked : ℕ → Id → List Confirmed → Held
+looked B i cs = cond (holds i B cs) Exactly (cond (is_confirmed i cs) Another Nothing)
 
 -- r is settled, over the confirmed records cs
 pub record Settled (k : Board) (B : ℕ) (r : Pending) (cs : List Confirmed) (xs ys : Counts) (a : List ℕ) (xs' ys' : Counts) (a' : List ℕ) (mark : ℕ) : Type 0 where

@@ -13,30 +13,35 @@ ghost use Rattle.ready.specs.Ready.{Ready};
 ghost use Rattle.settles.specs.Settled.{looked, Settled, AllSettled};
 
 use boards::waited;
-use ids::{Found, find};
-use kinds::{CONFIRMED_SIZE, HEIGHT_AT, Height, Horizon, State};
+use ids::find;
+use kinds::{CONFIRMED_SIZE, HEIGHT_AT, Height, Horizon, ID_SIZE, State};
 use table::{PendingEntry, height_at, pending_at, put_field};
 
-// The confirmed record of the id, if there is one, gets h. The answer is 0 if it held exactly h, 1 if there is none, 2 if it held another height.
-fn renew(recent: &mut [u8], kept: usize, id: &[u8], h: Height) -> u8
+// What a look at the confirmed record of an id tells: it holds exactly the height, or another one, or there is none.
+#[derive(Clone, Copy)]
+enum Held {
+    Exactly,
+    Another,
+    Nothing,
+}
+
+// The confirmed record of the id, if there is one, gets h. The answer is what it held before.
+fn renew(recent: &mut [u8], kept: usize, id: &[u8], h: Height) -> Held
     requires recent_value { sound_table confirmed_size confirmed_most kept recent.old ≡ true }
     requires id_len { length id.now ≡ 32 }
     ensures value { result ≡ looked h.0 id.now (confirmed_records kept recent.old) }
     ensures recent_after { recent.new ≡ lay_confirmed (renewed h.0 id.now (confirmed_records kept recent.old)) recent.old }
 {
     match find(recent, CONFIRMED_SIZE, kept, id) {
-        Found::At(k) => {
-            let old = height_at(recent, kept, k);
-            let was = old.0;
-            let is = h.0;
-            if was == is {
-                0
-            } else {
-                put_field(recent, CONFIRMED_SIZE, kept, k, HEIGHT_AT, is);
-                2
+        Ok(k) => {
+            let was = height_at(recent, kept, k).0;
+            if was == h.0 {
+                return Held::Exactly;
             }
+            put_field(recent, CONFIRMED_SIZE, kept, k, HEIGHT_AT, h.0);
+            Held::Another
         }
-        Found::Gap(_) => 1,
+        Err(_) => Held::Nothing,
     }
 }
 
@@ -46,10 +51,8 @@ fn count(confirmed: &mut [f64], resolved: &mut [f64], r: PendingEntry, h: Height
     ensures confirmed_after { confirmed.new ≡ gain r.bucket (λ c. leb (wait h.0 r.entry.0) ((board_of on).width * c)) confirmed.old }
     ensures resolved_after { resolved.new ≡ gain r.bucket (λ c. ltb r.through c) resolved.old }
 {
-    let bucket = r.bucket;
-    let through = r.through;
     let first = boards::first_column(waited(r.entry, h), boards::width_of(on));
-    counts::count_confirmation(confirmed, resolved, bucket as usize, through, first);
+    counts::count_confirmation(confirmed, resolved, r.bucket as usize, r.through, first);
 }
 
 // Pending record number `i` is settled at h: it is counted, unless its confirmed record holds exactly h. The answer is 1 if it has no confirmed record, 2 if it
@@ -74,11 +77,11 @@ fn settle(
 {
     let size = boards::record_size(on);
     let from = i * size;
-    let to = from + 32;
-    let was = renew(recent, kept, &pending[from..to], h);
-    if was == 0 {
-        return 2;
-    }
+    let mark = match renew(recent, kept, &pending[from..from + ID_SIZE], h) {
+        Held::Exactly => return 2,
+        Held::Another => 2,
+        Held::Nothing => 1,
+    };
     count(
         confirmed,
         resolved,
@@ -86,7 +89,7 @@ fn settle(
         h,
         on,
     );
-    was
+    mark
 }
 
 // Every pending record whose mark is 1 is settled at h, in table order. Its mark stays 1 if it has no confirmed record, and becomes 2 if it has one.
@@ -107,13 +110,9 @@ pub fn settle_all(
 {
     let used = state.pending;
     let kept = state.recent;
-    let mut i = 0;
-    while i < used {
+    for i in 0..used {
         if marks[i] == 1 {
             marks[i] = settle(confirmed, resolved, pending, used, recent, kept, i, h, on);
-            i += 1;
-        } else {
-            i += 1;
         }
     }
 }

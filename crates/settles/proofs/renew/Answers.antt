@@ -11,8 +11,8 @@ use Rattle.settles.proofs.renew.Goals as goal
 pub find-requires : goal.find-requires
 find-requires c = let both = searchable confirmed_size confirmed_size confirmed_most _ _ c.args.id.now refl (omega arith) c.requires.recent_value c.requires.id_len in record { le_size = both.0; table_value = both.1.0; id_len = both.1.1 }
 
-pub height_at-old-requires : goal.height_at-old-requires
-height_at-old-requires c =
+pub height_at-was-requires : goal.height_at-was-requires
+height_at-was-requires c =
     in_table confirmed_size confirmed_size confirmed_most _ _ _ _ refl c.requires.recent_value (sym c.find.ensures ∙ c.in-Ok.is)
 
 pub put_field-requires : goal.put_field-requires
@@ -21,14 +21,14 @@ put_field-requires c =
     (sym c.find.ensures ∙ c.in-Ok.is) in
     (p.0, (omega arith, p.1))
 
-pub returns-then-was-is : goal.returns-then-was-is
-returns-then-was-is c = let both = looked_same _ _ _ _ c.requires.recent_value _ (are_bytes_lem c.args.recent.now (λ i. search rules))
-    (sym c.find.ensures ∙ c.in-Ok.is) _ c.height_at-old.ensures c.if-was-is.true in record { value = both.0; recent_after = both.1 }
+pub returns-then-was-h : goal.returns-then-was-h
+returns-then-was-h c = let both = looked_same _ _ _ _ c.requires.recent_value _ (are_bytes_lem c.args.recent.now (λ i. search rules))
+    (sym c.find.ensures ∙ c.in-Ok.is) _ c.height_at-was.ensures c.if-was-h.true in record { value = both.0; recent_after = both.1 }
 
-pub returns-else-was-is : goal.returns-else-was-is
-returns-else-was-is c = let both = looked_older _ _ _ _ c.requires.recent_value _ _ (are_bytes_lem c.put_field.new.table (λ i. (c.type_inv.recent i).fits)) (omega arith)
+pub returns-else-was-h : goal.returns-else-was-h
+returns-else-was-h c = let both = looked_older _ _ _ _ c.requires.recent_value _ _ (are_bytes_lem c.put_field.new.table (λ i. (c.type_inv.recent i).fits)) (omega arith)
     (sym c.find.ensures ∙ c.in-Ok.is) _
-    c.height_at-old.ensures c.if-was-is.false c.put_field.ensures in record { value = both.0; recent_after = both.1 }
+    c.height_at-was.ensures c.if-was-h.false c.put_field.ensures in record { value = both.0; recent_after = both.1 }
 
 pub returns-in-Err : goal.returns-in-Err
 returns-in-Err c = let both = looked_none _ _ _ _ c.requires.recent_value _ (are_bytes_lem c.args.recent.now (λ i. search rules)) (sym c.find.ensures ∙ c.in-Err.is) in record { value = both.0; recent_after = both.1 }

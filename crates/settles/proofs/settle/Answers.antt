@@ -1,5 +1,6 @@
 -- `settles::settle` meets its contract. Assumes nothing.
-use mathlib.Core.Path.{◌≡◌, ap, ◌∙◌}
+use Rattle.settles.specs.declared.Held.TheVariants.{Exactly}
+use mathlib.Core.Path.{◌≡◌, sym, ap, ◌∙◌}
 use mathlib.Core.List.{[]}
 use Prim.Native.Nat.{◌+◌, ◌-◌, ◌*◌, ◌≤◌}
 use native.Mathlib.Omega.{arith}
@@ -8,9 +9,9 @@ use Rattle.rules.specs.Records.{records}
 use Rattle.rules.specs.Board.{Pending, board_of, pending_of}
 use Rattle.rules.proofs.Boards.{board_lawful, read_at}
 use Rattle.by_id.proofs.ById.{within_bytes, id_within, lent_id}
-use Rattle.settles.proofs.Settling.{settled_held, settled_counted}
+use Rattle.settles.proofs.Settling.{mark_of, settled_held, settled_counted}
 use Rattle.settles.proofs.settle.Goals as goal
-use Rattle.settles.proofs.settle.Goals.{After-record_size-size}
+use Rattle.settles.proofs.settle.Goals.{After-record_size-size, Joined-renew, in-Another, in-Nothing}
 
 within : (n : After-record_size-size) → n.args.i * n.record_size-size.result + 32 ≤ length n.args.pending.now
 within n =
@@ -25,9 +26,9 @@ its n =
 read_of : (n : After-record_size-size) → pending_of (get_or (records n.record_size-size.result n.args.used n.args.pending.now) n.args.i []) ≡ (board_of n.args.on).table.read (get_or (records (board_of n.args.on).table.size n.args.used n.args.pending.now) n.args.i [])
 read_of n = read_at n.args.on n.record_size-size.result n.args.used n.args.i n.args.pending.now n.record_size-size.ensures.value
 
-pub returns-then-was-eq0 : goal.returns-then-was-eq0
-returns-then-was-eq0 c =
-    settled_held _ _ ((board_of c.args.on).table.read (get_or (records (board_of c.args.on).table.size c.args.used c.args.pending.now) c.args.i [])) _ (its (goal.at.returns-then-was-eq0 c).After-record_size-size) _ _ _ _ _ _ c.renew-was.ensures.value c.renew-was.ensures.recent_after (omega (arith, c.if-was-eq0.true))
+pub returns-in-Exactly : goal.returns-in-Exactly
+returns-in-Exactly c =
+    settled_held _ _ ((board_of c.args.on).table.read (get_or (records (board_of c.args.on).table.size c.args.used c.args.pending.now) c.args.i [])) _ (its (goal.at.returns-in-Exactly c).After-record_size-size) _ _ _ _ _ _ c.renew.ensures.value c.renew.ensures.recent_after c.in-Exactly.is
 
 pub pending_at-requires : goal.pending_at-requires
 pending_at-requires c =
@@ -37,16 +38,23 @@ pub count-requires : goal.count-requires
 count-requires c =
     (omega (arith, c.requires.i_bound.0, c.pending_at.ensures.bucket_value ∙ ap (λ (q : Pending). q.bucket) (read_of (goal.at.count-requires c).After-record_size-size)), c.requires.i_bound.1, c.requires.i_bound.2)
 
+-- it did not hold exactly h
+other : (n : Joined-renew) → n.renew.result ≡ Exactly → ⊥
+other n e = elim n.match-renew.branch [ in-Another w ↦ cc (w.in-Another.is) | in-Nothing w ↦ cc (w.in-Nothing.is) ]
+
+mark_told : (n : Joined-renew) → n.match-renew.mark ≡ mark_of n.renew.result
+mark_told n = elim n.match-renew.branch [ in-Another w ↦ w.mark-is ∙ ap mark_of (sym w.in-Another.is) | in-Nothing w ↦ w.mark-is ∙ ap mark_of (sym w.in-Nothing.is) ]
+
 pub returns : goal.returns
 returns c =
-    settled_counted _ _ ((board_of c.args.on).table.read (get_or (records (board_of c.args.on).table.size c.args.used c.args.pending.now) c.args.i [])) _ (its (goal.at.returns c).After-record_size-size) _ _ _ _ _ _ c.renew-was.ensures.value c.renew-was.ensures.recent_after (λ z. omega arith) _ _ _
-    (c.pending_at.ensures.bucket_value ∙ ap (λ (q : Pending). q.bucket) (read_of (goal.at.returns c).After-record_size-size)) (c.pending_at.ensures.result_value ∙ ap (λ (q : Pending). q.entry) (read_of (goal.at.returns c).After-record_size-size)) (c.pending_at.ensures.through_value ∙ ap (λ (q : Pending). q.through) (read_of (goal.at.returns c).After-record_size-size)) _ _ c.count.ensures.confirmed_after c.count.ensures.resolved_after
+    settled_counted _ _ ((board_of c.args.on).table.read (get_or (records (board_of c.args.on).table.size c.args.used c.args.pending.now) c.args.i [])) _ (its (goal.at.returns c).After-record_size-size) _ _ _ _ _ _ c.renew.ensures.value c.renew.ensures.recent_after (other (goal.at.returns c).Joined-renew) _ _ _
+    (c.pending_at.ensures.bucket_value ∙ ap (λ (q : Pending). q.bucket) (read_of (goal.at.returns c).After-record_size-size)) (c.pending_at.ensures.result_value ∙ ap (λ (q : Pending). q.entry) (read_of (goal.at.returns c).After-record_size-size)) (c.pending_at.ensures.through_value ∙ ap (λ (q : Pending). q.through) (read_of (goal.at.returns c).After-record_size-size)) _ _ c.count.ensures.confirmed_after c.count.ensures.resolved_after _ (mark_told (goal.at.returns c).Joined-renew)
 
 pub overflow_mul-from : goal.overflow_mul-from
 overflow_mul-from c = omega (arith, within (goal.at.overflow_mul-from c).After-record_size-size)
 
-pub overflow_add-to : goal.overflow_add-to
-overflow_add-to c = omega (arith, within (goal.at.overflow_add-to c).After-record_size-size)
+pub overflow_add-from : goal.overflow_add-from
+overflow_add-from c = omega (arith, within (goal.at.overflow_add-from c).After-record_size-size)
 
 pub slice_bounds-renew-end : goal.slice_bounds-renew-end
 slice_bounds-renew-end c = omega (arith, within (goal.at.slice_bounds-renew-end c).After-record_size-size)

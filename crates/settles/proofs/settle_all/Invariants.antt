@@ -1,5 +1,4 @@
 -- `settles::settle_all` meets its contract. Assumes nothing.
-use Prim.Native.Nat.{◌-◌}
 use Rattle.rules.specs.Board.{board_of}
 use Rattle.rules.specs.Memory.{lent}
 use Rattle.settles.proofs.Passing.{Passed}
@@ -8,7 +7,3 @@ use Rattle.settles.proofs.settle_all.Given as goal
 abbrev pub invariant-loop-i : goal.invariant-loop-i
 invariant-loop-i l =
     Passed (board_of l.on) l.h.0 l.used l.kept (lent l.initial.confirmed l.initial.resolved l.pending l.initial.recent) l.initial.marks l.i (lent l.confirmed l.resolved l.pending l.recent) l.marks
-
-abbrev pub decreases-loop-i : goal.decreases-loop-i
-decreases-loop-i l =
-    l.used - l.i

@@ -42,8 +42,8 @@ returns c =
 pub overflow_mul-at : goal.overflow_mul-at
 overflow_mul-at c = omega (arith, within (goal.at.overflow_mul-at c).After-record_size)
 
-pub overflow_add-end : goal.overflow_add-end
-overflow_add-end c = omega (arith, within (goal.at.overflow_add-end c).After-record_size)
+pub overflow_add-at : goal.overflow_add-at
+overflow_add-at c = omega (arith, within (goal.at.overflow_add-at c).After-record_size)
 
 pub slice_bounds-held_above-end : goal.slice_bounds-held_above-end
 slice_bounds-held_above-end c = omega (arith, within (goal.at.slice_bounds-held_above-end c).After-record_size)

@@ -11,14 +11,14 @@ pub loop-i-init : goal.loop-i-init
 loop-i-init c = start _ _
 
 pub adds_one-requires : goal.adds_one-requires
-adds_one-requires c = record { i_lt_used = (c.loop-i-test.true, c.requires.pending_value); recent_value = c.requires.recent_value }
+adds_one-requires c = record { i_lt_used = ((omega arith), c.requires.pending_value); recent_value = c.requires.recent_value }
 
 pub loop-i-preserved : goal.loop-i-preserved
 loop-i-preserved c =
-    step _ _ c.if-adds_one.n c.adds_one.result c.loop-i.invariant c.loop-i-test.true
+    step _ _ c.if-adds_one.n c.adds_one.result c.loop-i.invariant (omega arith)
     (elim c.if-adds_one.branch [ then-adds_one w ↦ omega (arith, w.n-is, ap bit w.if-adds_one.true) | else-adds_one w ↦ omega (arith, w.n-is, ap bit w.if-adds_one.false) ])
-    (new_next (board_of c.args.on) _ _ _ _ c.loop-i.i c.adds_one.result c.loop-i-test.true c.requires.used_in_bounds c.adds_one.ensures)
+    (new_next (board_of c.args.on) _ _ _ _ c.loop-i.i c.adds_one.result (omega arith) c.requires.used_in_bounds c.adds_one.ensures)
 
 pub returns : goal.returns
 returns c =
-    stop _ _ c.loop-i.invariant (new_end _ _ _ _ _ c.loop-i.i c.loop-i-test.false)
+    stop _ _ c.loop-i.invariant (new_end _ _ _ _ _ c.loop-i.i (omega arith))

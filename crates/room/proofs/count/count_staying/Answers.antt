@@ -7,7 +7,7 @@ use Rattle.rules.specs.Lists.{bit}
 use Rattle.lists.proofs.Loop.{start, step, stop}
 use Rattle.room.proofs.Counting.{all_high, high_next, high_end}
 use Rattle.room.proofs.count.count_staying.Goals as goal
-use Rattle.room.proofs.count.count_staying.Goals.{then-low-h, else-low-h}
+use Rattle.room.proofs.count.count_staying.Goals.{then-low-height_at, else-low-height_at}
 
 pub returns-then-low-eq0 : goal.returns-then-low-eq0
 returns-then-low-eq0 c = all_high c.args.least.0 _ _ c.if-low-eq0.true
@@ -15,16 +15,16 @@ returns-then-low-eq0 c = all_high c.args.least.0 _ _ c.if-low-eq0.true
 pub loop-i-init : goal.loop-i-init
 loop-i-init c = start _ _
 
-pub height_at-h-requires : goal.height_at-h-requires
-height_at-h-requires c = (c.loop-i-test.true, c.requires)
+pub height_at-requires : goal.height_at-requires
+height_at-requires c = ((omega arith), c.requires)
 
 pub loop-i-preserved : goal.loop-i-preserved
 loop-i-preserved c =
     let low : ℕ = c.args.least.0 in
-    step _ _ c.if-low-h.n (leb low c.height_at-h.result.0) c.loop-i.invariant c.loop-i-test.true
-    (elim c.if-low-h.branch [ then-low-h w ↦ omega (arith, w.n-is, ap bit (le-leb low c.height_at-h.result.0 w.if-low-h.true)) | else-low-h w ↦ omega (arith, w.n-is, ap bit (lt-leb low c.height_at-h.result.0 w.if-low-h.false)) ])
-    (high_next low _ _ c.loop-i.i c.height_at-h.result.0 c.loop-i-test.true c.height_at-h.ensures)
+    step _ _ c.if-low-height_at.n (leb low c.height_at.result.0) c.loop-i.invariant (omega arith)
+    (elim c.if-low-height_at.branch [ then-low-height_at w ↦ omega (arith, w.n-is, ap bit (le-leb low c.height_at.result.0 w.if-low-height_at.true)) | else-low-height_at w ↦ omega (arith, w.n-is, ap bit (lt-leb low c.height_at.result.0 w.if-low-height_at.false)) ])
+    (high_next low _ _ c.loop-i.i c.height_at.result.0 (omega arith) c.height_at.ensures)
 
 pub returns : goal.returns
 returns c =
-    stop _ _ c.loop-i.invariant (high_end _ _ _ c.loop-i.i c.loop-i-test.false)
+    stop _ _ c.loop-i.invariant (high_end _ _ _ c.loop-i.i (omega arith))

@@ -1,5 +1,4 @@
 -- `room::count::count_staying` meets its contract. Assumes nothing.
-use Prim.Native.Nat.{◌-◌}
 use lib.Dec.{leb}
 use lib.ListN.{drop}
 use Rattle.rules.specs.Lists.{count}
@@ -9,6 +8,3 @@ use Rattle.room.proofs.count.count_staying.Given as goal
 
 abbrev pub invariant-loop-i : goal.invariant-loop-i
 invariant-loop-i l = Counting (λ j. count (λ c. leb l.low c.height) (drop j (confirmed_records l.kept l.recent))) l.kept l.n l.i
-
-abbrev pub decreases-loop-i : goal.decreases-loop-i
-decreases-loop-i l = l.kept - l.i

@@ -10,14 +10,14 @@ use Rattle.room.proofs.count.held_above.Goals as goal
 pub find-requires : goal.find-requires
 find-requires c = let both = searchable confirmed_size confirmed_size confirmed_most _ _ c.args.id.now refl (omega arith) c.requires.recent_value c.requires.id_len in record { le_size = both.0; table_value = both.1.0; id_len = both.1.1 }
 
-pub height_at-h-requires : goal.height_at-h-requires
-height_at-h-requires c =
+pub height_at-requires : goal.height_at-requires
+height_at-requires c =
     in_table confirmed_size confirmed_size confirmed_most _ _ _ _ refl c.requires.recent_value (sym c.find.ensures ∙ c.in-Ok.is)
 
 pub returns-in-Ok : goal.returns-in-Ok
 returns-in-Ok c =
     let f = sym c.find.ensures ∙ c.in-Ok.is in
-    held_there c.args.least.0 c.args.id.now c.args.kept _ c.args.recent.now (sound_told _ _ _ _ c.requires.recent_value).rise f _ c.height_at-h.ensures
+    held_there c.args.least.0 c.args.id.now c.args.kept _ c.args.recent.now (sound_told _ _ _ _ c.requires.recent_value).rise f _ c.height_at.ensures
 
 pub returns-in-Err : goal.returns-in-Err
 returns-in-Err c =

@@ -8,7 +8,7 @@ use Rattle.rules.specs.Records.{records}
 use Rattle.rules.specs.Board.{Pending, board_of, pending_of}
 use Rattle.rules.specs.Estimator.{outwaited}
 use Rattle.rules.proofs.Boards.{read_at}
-use Rattle.room.proofs.Lasting.{lasts_none, resolved_all, some_left}
+use Rattle.room.proofs.Lasting.{lasts_none, lasts_some}
 use Rattle.room.proofs.skipped.lasts.Goals as goal
 use Rattle.room.proofs.skipped.lasts.Goals.{After-outwaited-reach}
 
@@ -37,10 +37,6 @@ pub pending_at-r-requires : goal.pending_at-r-requires
 pending_at-r-requires c =
     (c.record_size-size.ensures.lower_bound, (c.requires.0, subst (λ (n : ℕ). c.args.used * n ≤ length c.args.pending.now) (sym c.record_size-size.ensures.value) c.requires.1))
 
-pub returns-then-most-r : goal.returns-then-most-r
-returns-then-most-r c =
-    resolved_all _ (board_of c.args.on) (rec (goal.at.returns-then-most-r c).After-outwaited-reach) _ _ c.in-Some.is (through_is (goal.at.returns-then-most-r c).After-outwaited-reach) (reach_is (goal.at.returns-then-most-r c).After-outwaited-reach) c.if-most-r.true
-
 pub returns : goal.returns
 returns c =
-    some_left _ (board_of c.args.on) (rec (goal.at.returns c).After-outwaited-reach) _ _ c.in-Some.is (through_is (goal.at.returns c).After-outwaited-reach) (reach_is (goal.at.returns c).After-outwaited-reach) c.if-most-r.false
+    rw c.max.ensures (lasts_some _ (board_of c.args.on) (rec (goal.at.returns c).After-outwaited-reach) _ _ c.in-Some.is (through_is (goal.at.returns c).After-outwaited-reach) (reach_is (goal.at.returns c).After-outwaited-reach))
