@@ -1,22 +1,15 @@
 -- What is laid into lent memory. Assumes nothing.
 use mathlib.Core.Path.{◌≡◌, refl, sym, ap₂, ◌∙◌}
 use mathlib.Core.Bool.{Bool, true, false}
-use mathlib.Core.List.{List, append-nil}
+use mathlib.Core.List.{List}
 use Prim.Native.Nat.{ℕ, ◌+◌, ◌-◌, ◌≤◌}
 use native.Mathlib.Omega.{arith}
 use borrow.Author.Tests.{eq-eqb, ne_eqb, le-leb, lt-leb, leb-true, leb-false}
 use lib.Dec.{leb}
-use lib.ListN.{length, replicate, drop_of_length-le}
 use lib.Ieee.{Float}
 use Rattle.rules.specs.Counts.{nought}
 use Rattle.rules.specs.Memory.{Lent, lent}
-use Rattle.lists.proofs.Upto.{Going, stop}
-use Rattle.counts.proofs.Clearing.{filled}
 use Rattle.desk_lays.specs.Lays.{all, cleared, laid, in_one}
-
--- a loop that has gone through the whole list
-pub all_filled : {A : Type 0} {v : A} {xs₀ xs : List A} {i : ℕ} → Going (λ _. v) (length xs₀) xs₀ xs i → length xs₀ ≤ i → xs ≡ replicate (length xs₀) v
-all_filled {A} {v} {xs₀} {xs} {i} g h = stop g h ∙ filled v (length xs₀) xs₀ (omega arith) ∙ rw (drop_of_length-le xs₀ {i = length xs₀} (omega arith)) (append-nil _)
 
 -- all that is lent, cleared
 pub all_cleared : (l : Lent) (c r : List Float) (p t : List ℕ) → c ≡ all nought l.confirmed → r ≡ all nought l.resolved → p ≡ all 0 l.pending → t ≡ all 0 l.recent

@@ -9,36 +9,14 @@ use page::Operation;
 use print::put;
 use script::sums::double_of;
 
-// Every byte becomes v.
-pub fn fill(s: &mut [u8], v: u8)
-    ensures { s.new ≡ replicate (length s.old) v }
-{
-    let mut i: usize = 0;
-    while i < s.len() {
-        s[i] = v;
-        i += 1;
-    }
-}
-
-// Every count becomes +0.0.
-fn zero(s: &mut [f64])
-    ensures { s.new ≡ replicate (length s.old) nought }
-{
-    let mut i: usize = 0;
-    while i < s.len() {
-        s[i] = 0.0;
-        i += 1;
-    }
-}
-
 // lend: what was lent becomes zero.
 fn clear(pending: &mut [u8], recent: &mut [u8], confirmed: &mut [f64], resolved: &mut [f64])
     ensures { after confirmed resolved pending recent ≡ cleared (before confirmed resolved pending recent) }
 {
-    fill(pending, 0);
-    fill(recent, 0);
-    zero(confirmed);
-    zero(resolved);
+    pending.fill(0);
+    recent.fill(0);
+    confirmed.fill(0.0);
+    resolved.fill(0.0);
 }
 
 // Whether n bytes at `at` are within so many.

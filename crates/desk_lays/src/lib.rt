@@ -3,4 +3,4 @@
 
 mod lays;
 
-pub use lays::{fill, lay};
+pub use lays::lay;
