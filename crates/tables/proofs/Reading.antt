@@ -75,28 +75,12 @@ has size most s at h =
     record { few = leb-true _ _ (and_left a b h); room = leb-true _ _ (and_right a b h) }
 
 module _ (size most : ℕ) (s : List ℕ) (at : ℕ) where
-  pub has_many : most < le_at 4 s at → has_table size most s at ≡ false
-  has_many h = rw (lt-leb (le_at 4 s at) most h)
-
-  pub has_short : length s < at + 4 + le_at 4 s at * size → has_table size most s at ≡ false
-  has_short h = go (leb (le_at 4 s at) most) ∙ rw (lt-leb (at + 4 + le_at 4 s at * size) (length s) h)
-    where
-      go : (b : Bool) → (b && leb (at + 4 + le_at 4 s at * size) (length s)) ≡ leb (at + 4 + le_at 4 s at * size) (length s)
-      go true = refl
-      go false = sym (lt-leb (at + 4 + le_at 4 s at * size) (length s) h)
-
-  pub has_yes : le_at 4 s at ≤ most → at + 4 + le_at 4 s at * size ≤ length s → has_table size most s at ≡ true
-  has_yes h k = rw (le-leb (le_at 4 s at) most h, le-leb (at + 4 + le_at 4 s at * size) (length s) k)
-
   -- where its records end
   pub end_room : has_table size most s at ≡ true → (n : ℕ) → n ≡ le_at 4 s at → at + 4 + n * size ≤ length s
   end_room h n e = subst (λ (k : ℕ). at + 4 + k * size ≤ length s) (sym e) (has size most s at h).room
 
   -- the records' bytes, as they are taken
   module _ (h : has_table size most s at ≡ true) (n : ℕ) (e : n ≡ le_at 4 s at) (xs : List ℕ) (f : xs ≡ take (n * size) (drop (at + 4) s)) where
-    pub records_room : length xs ≡ n * size
-    records_room = long_taken (n * size) s (at + 4) xs f (end_room h n e)
-
     pub records_are : records size n xs ≡ records size n (drop (at + 4) s)
     records_are = ap (records size n) f ∙ records_taken size n (drop (at + 4) s) (simp length-drop (omega (arith, end_room h n e)))
 
@@ -131,9 +115,6 @@ module _ {A : Type 0} (size most : ℕ) (one : Part A) (s : List ℕ) (at : ℕ)
       record { is = table_records (omega (arith, h.room)) h.few ∙ (rw (drop-drop (le_at 4 s at * size) (at + 4) s) at t).is })
 
 -- ---- both
-
-pub never : {A : Type 0} (b : Bool) → b ≡ false → b ≡ true → A
-never b f t = let z : ◌≡◌ {A = Bool} true false = sym t ∙ f in let y : ◌≡◌ {A = ℕ} 0 1 = cc in absurd (omega arith)
 
 -- today every version's records are read so
 pub told_read : (v : FileVersion) → pending_of ≡ (version_told v).records.read

@@ -7,6 +7,6 @@ use Rattle.codec.proofs.buckets.load_bucket.Goals as goal
 
 pub returns : goal.returns
 returns c = (
-  c.bucket_in.ensures.0 ∙ row_stored c.args.confirmed.now c.args.i c.args.s.now confirmed_row (omega arith) (omega arith) c.row_counts-c.ensures,
-  c.bucket_in.ensures.1 ∙ row_stored c.args.resolved.now c.args.i c.args.s.now resolved_row (omega arith) (omega arith) c.row_counts-r.ensures,
+  c.bucket_in.ensures.0 ∙ row_stored c.args.confirmed.now c.args.i c.args.s.now confirmed_row (omega arith) (omega arith) c.row_counts.ensures,
+  c.bucket_in.ensures.1 ∙ row_stored c.args.resolved.now c.args.i c.args.s.now resolved_row (omega arith) (omega arith) c.row_counts-2.ensures,
 )

@@ -29,12 +29,6 @@ loop-i-preserved c =
     let e = turn c.args.resolved.now c.loop-i.resolved c.args.s.now c.args.at c.loop-i.i 208 c.part-bytes.result.now c.part-bytes.ensures (omega arith) _ c.loop-i.invariant.1.1.1 c.load_bucket.ensures.1 in
     (omega arith, ((ap length d ∙ simp length-sets, ap length e ∙ simp length-sets), (d, e)))
 
-pub shape_of-confirmed : goal.shape_of-confirmed
-shape_of-confirmed c = c.loop-i.invariant.1.0.0
-
-pub shape_of-resolved : goal.shape_of-resolved
-shape_of-resolved c = c.loop-i.invariant.1.0.1
-
 pub returns : goal.returns
 returns c =
     let e : c.loop-i.i ≡ 142 = omega arith in (

@@ -10,11 +10,6 @@ use Rattle.format.specs.File.{height_length, last_bytes}
 use Rattle.parse.proofs.Putting.{put_none, put_at}
 use Rattle.parse.proofs.head.put_last.Goals as goal
 
-pub put_u32-requires-in-Some-2 : goal.put_u32-requires-in-Some-2
-put_u32-requires-in-Some-2 c =
-    let e : height_length c.args.last ≡ 4 = ap height_length c.in-Some.is in
-    omega (arith, e)
-
 pub returns-in-None : goal.returns-in-None
 returns-in-None c =
     c.put_u32.ensures
