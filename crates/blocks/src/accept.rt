@@ -11,6 +11,7 @@ ghost use Rattle.ready.specs.Ready.{Ready};
 use kinds::{Height, Horizon, State};
 
 // Whether a block advances: if there is no last height, or its height is above it.
+#[tactic(auto, unfolding(rules::specs::Estimator::advances))]
 fn advances(last: Option<Height>, h: Height) -> bool
     ensures { result ≡ advances last h.0 }
 {

@@ -29,7 +29,5 @@ pub fn block_connected(
         ≡ block_call (board_of on) state (before confirmed resolved pending recent) ids.now height }
 {
     judge_block(state, confirmed, resolved, pending, recent, ids, height, on)?;
-    Ok(connect(
-        state, confirmed, resolved, pending, recent, ids, height, on,
-    ))
+    Ok(connect(state, confirmed, resolved, pending, recent, ids, height, on))
 }

@@ -11,7 +11,9 @@ ghost use Rattle.rules.specs.Calls.{outcome, start_call};
 
 use boards::record_size;
 use counts::clear_counts;
-use kinds::{CONFIRMED_SIZE, COUNTS, Damaged, Horizon, MAX_CONFIRMED_RECORDS, MAX_PENDING_ENTRIES, State};
+use kinds::{
+    CONFIRMED_SIZE, COUNTS, Damaged, Horizon, MAX_CONFIRMED_RECORDS, MAX_PENDING_ENTRIES, State,
+};
 use table::clear_table;
 
 // A fresh start: no count, no record, no last height.

@@ -7,9 +7,12 @@ ghost use Rattle.rules.specs.Board.{board_of};
 ghost use Rattle.rules.specs.Memory.{lent};
 ghost use Rattle.rules.specs.Calls.{gap, block_call};
 
-use kinds::{BlockError, Blocks, CONFIRMED_SIZE, Height, Horizon, MAX_CONFIRMED_RECORDS, MAX_GAP, State};
+use kinds::{
+    BlockError, Blocks, CONFIRMED_SIZE, Height, Horizon, MAX_CONFIRMED_RECORDS, MAX_GAP, State,
+};
 
 // The height minus the last one, 0 if negative or if there is none.
+#[tactic(auto, unfolding(rules::specs::Calls::gap))]
 fn gap(last: Option<Height>, h: Height) -> Blocks
     ensures { result.0 ≡ gap last h }
 {
