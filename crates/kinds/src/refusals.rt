@@ -25,7 +25,7 @@ pub fn number_of<T: Drop, E: Refusal>(answered: Result<T, E>) -> u32
 }
 
 // What was lent to a fresh start or for an estimate is not an estimator's.
-#[derive(Clone, Copy)]
+#[derive(Clone, Copy, Debug, PartialEq, Eq)]
 pub struct Damaged;
 
 impl Refusal for Damaged {
@@ -39,7 +39,7 @@ impl Refusal for Damaged {
 }
 
 // Why an enter is refused.
-#[derive(Clone, Copy)]
+#[derive(Clone, Copy, Debug, PartialEq, Eq)]
 pub enum EnterError {
     Damaged,
     BelowFloor,
@@ -63,7 +63,7 @@ impl Refusal for EnterError {
 }
 
 // Why a leave is refused.
-#[derive(Clone, Copy)]
+#[derive(Clone, Copy, Debug, PartialEq, Eq)]
 pub enum LeaveError {
     Damaged,
     Absent,
@@ -83,7 +83,7 @@ impl Refusal for LeaveError {
 }
 
 // Why a block is refused.
-#[derive(Clone, Copy)]
+#[derive(Clone, Copy, Debug, PartialEq, Eq)]
 pub enum BlockError {
     Damaged,
     BadList,
@@ -107,7 +107,7 @@ impl Refusal for BlockError {
 }
 
 // Why a file is not read; an unknown version with its number.
-#[derive(Clone, Copy)]
+#[derive(Clone, Copy, Debug, PartialEq, Eq)]
 pub enum ReadError {
     Damaged,
     BadMagic,
@@ -133,7 +133,7 @@ impl Refusal for ReadError {
 }
 
 // Why a file is not written; a short output with the length that is needed.
-#[derive(Clone, Copy)]
+#[derive(Clone, Copy, Debug, PartialEq, Eq)]
 pub enum WriteError {
     Damaged,
     ShortOutput(usize),
