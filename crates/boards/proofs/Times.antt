@@ -1,9 +1,8 @@
 -- From time to column. The first column that a wait fits is told by the two bounds that it meets; on either board a width is a literal, so these bounds make
 -- it the rules' column, where it is at most the last one. Assumes nothing.
 use mathlib.Core.Path.{◌≡◌, sym, subst, ◌∙◌}
-use Prim.Native.Nat.{ℕ, zero, suc, ◌+◌, ◌-◌, ◌*◌, ◌/◌, ◌≤◌, ◌<◌, min}
-use native.Mathlib.Nat.{le_refl, mul_comm, div-lt_iff_lt-mul, le-div_iff_mul-le}
-use native.Mathlib.Decide.{dec_le}
+use Prim.Native.Nat.{ℕ, zero, suc, ◌*◌, ◌≤◌, ◌<◌, min}
+use native.Mathlib.Nat.{le_refl}
 use native.Mathlib.Omega.{arith}
 use lib.Dec.{leb}
 use borrow.Author.Tests.{leb-true, leb-false, le-leb, lt-leb}
@@ -11,25 +10,6 @@ use Rattle.kinds.specs.declared.Horizon.{Horizon}
 use Rattle.rules.specs.Counts.{columns}
 use Rattle.rules.specs.Board.{board_of}
 use Rattle.rules.specs.Estimate.{column_of}
-
--- ---- the first column that a wait fits
-
-pub no_wait : (width c : ℕ) → leb 0 c ≡ leb 0 (width * c)
-no_wait width c = le-leb 0 c (omega arith) ∙ sym (le-leb 0 (width * c) (omega arith))
-
-pub some_wait : (wait width c : ℕ) → 0 < wait → 0 < width → leb ((wait - 1) / width + 1) c ≡ leb wait (width * c)
-some_wait wait width c h k = go (dec_le wait (c * width))
-  where
-    go : Dec (wait ≤ c * width) → leb ((wait - 1) / width + 1) c ≡ leb wait (width * c)
-    go (yes g) =
-        let m : (wait - 1) / width < c = (div-lt_iff_lt-mul k).1 (omega arith) in
-        le-leb _ c (omega arith) ∙ sym (le-leb wait (width * c) (rw mul_comm g))
-    go (no g) =
-        let m : c * width < wait = omega arith in
-        let r : c ≤ (wait - 1) / width = (le-div_iff_mul-le k).1 (omega arith) in
-        lt-leb _ c (omega arith) ∙ sym (lt-leb wait (width * c) (rw mul_comm m))
-
--- ---- the column of a target
 
 -- r is the first column c with n at most w * c
 abbrev First : ℕ → ℕ → ℕ → Type 0

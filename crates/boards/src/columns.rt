@@ -11,11 +11,7 @@ pub fn first_column(wait: Blocks, width: Blocks) -> u32
     requires { 0 < width.0 }
     ensures { (c : ℕ) → leb result c ≡ leb wait.0 (width.0 * c) }
 {
-    let w = wait.0;
-    if w == 0 {
-        return 0;
-    }
-    (w - 1) / width.0 + 1
+    wait.0.div_ceil(width.0)
 }
 
 // The column that covers a target: the first that it fits, or the last where it fits none.
@@ -23,9 +19,5 @@ pub fn column_of(target: Blocks, on: Horizon) -> usize
     ensures { result ≡ column_of (board_of on) target.0 }
 {
     let c = first_column(target, width_of(on)) as usize;
-    if MAX_CONF_TARGET < c {
-        MAX_CONF_TARGET
-    } else {
-        c
-    }
+    c.min(MAX_CONF_TARGET)
 }

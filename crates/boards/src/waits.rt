@@ -9,13 +9,7 @@ use kinds::{Blocks, Height, MAX_CONF_TARGET};
 pub fn waited(entry: Height, h: Height) -> Blocks
     ensures { result.0 ≡ wait h.0 entry.0 }
 {
-    let from = entry.0;
-    let to = h.0;
-    if from < to {
-        Blocks(to - from)
-    } else {
-        Blocks(1)
-    }
+    Blocks(h.0.saturating_sub(entry.0).max(1))
 }
 
 // How many whole widths a wait has. (Columns of one block need no division, which a pass over many records would pay for.)
@@ -35,11 +29,5 @@ pub fn outwaited(h: Height, entry: Height, width: Blocks) -> u32
     ensures { result ≡ min columns ((h.0 - entry.0) / width.0) }
 {
     let most = MAX_CONF_TARGET as u32;
-    let n = h.0;
-    let e = entry.0;
-    if n <= e {
-        return 0;
-    }
-    let c = whole_widths(n - e, width);
-    if c <= most { c } else { most }
+    whole_widths(h.0.saturating_sub(entry.0), width).min(most)
 }

@@ -21,10 +21,7 @@ pub(crate) struct Scan {
 fn sums_pass(confirmed: f64, resolved: f64) -> bool
     ensures { result ≡ passes confirmed resolved }
 {
-    if MIN_OBSERVATIONS <= resolved {
-        return SUCCESS_THRESHOLD <= confirmed / resolved;
-    }
-    false
+    MIN_OBSERVATIONS <= resolved && SUCCESS_THRESHOLD <= confirmed / resolved
 }
 
 // The scan with the sums of one bucket more.

@@ -7,6 +7,6 @@ pub returns-then-resolved : goal.returns-then-resolved
 unfolding passes
 returns-then-resolved c = rw (← one_is, ← part_is, c.if-resolved.true)
 
-pub returns : goal.returns
+pub returns-else-resolved : goal.returns-else-resolved
 unfolding passes
-returns c = rw (← one_is, c.if-resolved.false)
+returns-else-resolved c = rw (← one_is, c.if-resolved.false)
