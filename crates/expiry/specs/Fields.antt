@@ -1,19 +1,12 @@
 -- Tests and changes of the fields of a record. Assumes nothing.
-use Rattle.std.specs.Prelude.{ℕ, ◌-◌, ◌/◌, min, Bool, cond, List, leb, ltb}
+use Rattle.std.specs.Prelude.{ℕ, ◌-◌, ◌/◌, min, Bool, cond, List, ltb}
 use Rattle.rules.specs.Counts.{columns}
 use Rattle.rules.specs.Board.{pending_of}
 use Rattle.table.specs.Fields.{field, with_field}
-use Rattle.expiry.specs.declared.keep.Bound.{Bound}
-use Rattle.expiry.specs.declared.keep.Bound.TheVariants.{Below, AtLeast}
 
--- the number is within the bound
-unfoldable pub in_bound : Bound → ℕ → Bool
-in_bound (Below m) v = ltb v m
-in_bound (AtLeast m) v = leb m v
-
--- the field at `off` is within the bound
-abbrev pub passing : ℕ → Bound → List ℕ → Bool
-passing off b r = in_bound b (field off r)
+-- the field at `off` passes the test
+abbrev pub passing : ℕ → (ℕ → Bool) → List ℕ → Bool
+passing off passes r = passes (field off r)
 
 -- resolved-through stands at byte 40 of a pending record
 abbrev pub through_at : ℕ

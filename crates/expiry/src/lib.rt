@@ -55,10 +55,8 @@ fn expire_all(resolved: &mut [f64], pending: &mut [u8], used: usize, h: Height, 
     ensures resolved_after { resolved.new ≡ expire_targets (board_of on) h.0 (pending_records (board_of on) used pending.old) resolved.old }
     ensures pending_after { pending.new ≡ laid (board_of on).table.size used (map (raised (board_of on).width h.0) (records (board_of on).table.size used pending.old)) pending.old }
 {
-    let mut i: usize = 0;
-    while i < used {
+    for i in 0..used {
         expire_one(resolved, pending, used, i, h, on);
-        i += 1;
     }
 }
 

@@ -5,18 +5,12 @@ ghost use Rattle.rules.specs.Records.{id_of};
 ghost use Rattle.table.specs.Edit.{Moved};
 ghost use Rattle.settle.specs.Once.{Kept};
 
-use ids::Order;
-
 // Whether the ids at `p` and at `q` are the same.
 fn same_ids(table: &[u8], p: usize, q: usize) -> bool
     requires { (p + 32 ≤ length table.now) × (q + 32 ≤ length table.now) }
     ensures { result ≡ same (take 32 (drop p table.now)) (take 32 (drop q table.now)) }
 {
-    match ids::compare(table, p, table, q) {
-        Order::Less => false,
-        Order::Equal => true,
-        Order::Greater => false,
-    }
+    ids::compare(table, p, table, q).is_eq()
 }
 
 // One turn of `drop_repeats`: record `i` becomes record `k` if its id is another than that of record `k - 1`, and the answer is the next `k`.
@@ -37,10 +31,8 @@ pub(crate) fn drop_repeats(table: &mut [u8], size: usize, used: usize) -> usize
         return 0;
     }
     let mut k = 1;
-    let mut i = 1;
-    while i < used {
+    for i in 1..used {
         k = keep_other(table, size, k, i);
-        i += 1;
     }
     k
 }

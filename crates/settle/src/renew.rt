@@ -5,8 +5,6 @@ ghost use Rattle.rules.specs.Ids.{same, rising, placed};
 ghost use Rattle.rules.specs.Records.{records, id_of, laid};
 ghost use Rattle.format.specs.File.{settled};
 
-use ids::Found;
-
 // `rec` in the place of the record of its id.
 fn renew(table: &mut [u8], size: usize, used: usize, rec: &[u8])
     requires le_size { (32 ≤ size) × (used * size ≤ length table.old) }
@@ -15,7 +13,7 @@ fn renew(table: &mut [u8], size: usize, used: usize, rec: &[u8])
     requires table_value_2 { any (λ r. same (id_of r) (id_of rec.now)) (records size used table.old) ≡ true }
     ensures { table.new ≡ laid size used (placed id_of rec.now (records size used table.old)) table.old }
 {
-    if let Found::At(i) = ids::find(table, size, used, &rec[..32]) {
+    if let Ok(i) = ids::find(table, size, used, &rec[..32]) {
         mem::put_bytes(table, i * size, rec);
     }
 }
@@ -28,11 +26,8 @@ pub(crate) fn renew_all(table: &mut [u8], src: &[u8], size: usize, used: usize, 
     requires src_value { every (λ q. any (λ r. same (id_of r) (id_of q)) (records size used table.old)) (records size n src.now) ≡ true }
     ensures { table.new ≡ laid size used (settled id_of (records size used table.old) (records size n src.now)) table.old }
 {
-    let mut i = 0;
-    while i < n {
+    for i in 0..n {
         let from = i * size;
-        let to = from + size;
-        renew(table, size, used, &src[from..to]);
-        i += 1;
+        renew(table, size, used, &src[from..from + size]);
     }
 }

@@ -25,25 +25,19 @@ still l h = changing_still (raised (board_of l.args.on).width l.args.h.0) (size 
 
 pub expire_one-requires : goal.expire_one-requires
 expire_one-requires c =
-    let h : c.loop-i.i < c.args.used = c.loop-i-test.true in record { places_of_counts_in_bounds = (omega (arith, c.loop-i.invariant.0.long, c.requires.places_of_counts_in_bounds.0), h, omega (arith, kept (goal.at.expire_one-requires c).At-loop-i, c.requires.places_of_counts_in_bounds.1)); i_bound = rw (still (goal.at.expire_one-requires c).At-loop-i h) (bucket_at (board_of c.args.on) c.args.used c.args.pending.now c.requires.all c.loop-i.i h) }
+    let h : c.loop-i.i < c.args.used = omega arith in record { places_of_counts_in_bounds = (omega (arith, c.loop-i.invariant.0.long, c.requires.places_of_counts_in_bounds.0), h, omega (arith, kept (goal.at.expire_one-requires c).At-loop-i, c.requires.places_of_counts_in_bounds.1)); i_bound = rw (still (goal.at.expire_one-requires c).At-loop-i h) (bucket_at (board_of c.args.on) c.args.used c.args.pending.now c.requires.all c.loop-i.i h) }
 
 pub loop-i-preserved : goal.loop-i-preserved
 loop-i-preserved c =
     let k = board_of c.args.on in
-    let h : c.loop-i.i < c.args.used = c.loop-i-test.true in (
+    let h : c.loop-i.i < c.args.used = omega arith in (
       next k c.args.h.0 c.args.used c.args.pending.now c.loop-i.invariant.0 h c.expire_one.auto.resolved (c.expire_one.ensures.resolved_after ∙ ap (λ (r : List ℕ). expire_targets k c.args.h.0 (k.table.read r ∷ []) c.loop-i.resolved) (still (goal.at.loop-i-preserved c).At-loop-i h)),
       changing_more (raised k.width c.args.h.0) k.table.size c.args.used c.args.pending.now (length_raised k.table.size k.width c.args.h.0) c.loop-i.i c.loop-i.pending c.expire_one.new.pending h c.loop-i.invariant.1 c.expire_one.ensures.pending_after,
     )
 
 pub returns : goal.returns
 returns c =
-    let e : c.loop-i.i ≡ c.args.used = omega (arith, c.loop-i.invariant.0.within, c.loop-i-test.false) in record { resolved_after = stop _ _ _ _ c.loop-i.invariant.0 c.loop-i-test.false; pending_after = changing_end (raised (board_of c.args.on).width c.args.h.0) (size (goal.at.returns c).At-loop-i) c.args.used c.args.pending.now c.loop-i.pending (rw e at c.loop-i.invariant.1) }
+    let e : c.loop-i.i ≡ c.args.used = omega (arith, c.loop-i.invariant.0.within) in record { resolved_after = stop _ _ _ _ c.loop-i.invariant.0 (omega arith); pending_after = changing_end (raised (board_of c.args.on).width c.args.h.0) (size (goal.at.returns c).At-loop-i) c.args.used c.args.pending.now c.loop-i.pending (rw e at c.loop-i.invariant.1) }
 
 pub loop-i-init : goal.loop-i-init
 loop-i-init c = (start _ _ _ _ _, changing_none _ _ _ _ c.requires.places_of_counts_in_bounds.1)
-
-pub shape_of-resolved : goal.shape_of-resolved
-shape_of-resolved c = c.loop-i.invariant.0.long
-
-pub shape_of-pending : goal.shape_of-pending
-shape_of-pending c = kept (goal.at.shape_of-pending c).At-loop-i

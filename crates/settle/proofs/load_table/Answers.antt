@@ -21,25 +21,13 @@ short s = (mul-le-mul_right s.args.size s.requires.1.0, s.requires.1.1.1)
 holds : (p : After-put_bytes) → Holds p.args.size p.args.n p.args.table.now (records p.args.size p.args.n p.args.src.now) p.put_bytes.new.a
 holds p = copied p.args.size p.args.room p.args.n p.requires.1.0 p.args.table.now p.args.src.now p.put_bytes.new.a p.requires.1.1.1 p.requires.1.1.0 p.put_bytes.ensures
 
-pub slice_bounds-put_bytes-end : goal.slice_bounds-put_bytes-end
-slice_bounds-put_bytes-end c = sym (length-take-le (c.args.n * c.args.size) c.args.src.now c.requires.1.1.0)
-
 pub put_bytes-requires : goal.put_bytes-requires
 put_bytes-requires c = omega (arith, short (goal.at.put_bytes-requires c).Start, length-take-le (c.args.n * c.args.size) c.args.src.now c.requires.1.1.0)
-
-pub ids_rise-requires : goal.ids_rise-requires
-ids_rise-requires c = omega (arith, short (goal.at.ids_rise-requires c).Start, c.put_bytes.auto.a)
-
-pub zero-requires : goal.zero-requires
-zero-requires c = omega (arith, short (goal.at.zero-requires c).Start, c.put_bytes.auto.a)
 
 pub returns-then-ids_rise : goal.returns-then-ids_rise
 returns-then-ids_rise c =
     let up = rw (holds_records c.args.size c.args.n c.args.table.now (holds (goal.at.returns-then-ids_rise c).After-put_bytes)) at (sym c.ids_rise.ensures ∙ c.if-ids_rise.true) in
     let e = settled_rising _ (records c.args.size c.args.n c.args.src.now) up in record { value = all_count c.args.size c.args.room c.args.n c.requires.1.0 c.args.table.now (holds (goal.at.returns-then-ids_rise c).After-put_bytes) e; table_after = c.zero.ensures ∙ all_bytes c.args.size c.args.room c.args.n c.requires.1.0 c.args.table.now (holds (goal.at.returns-then-ids_rise c).After-put_bytes) e }
-
-pub by_id-requires : goal.by_id-requires
-by_id-requires c = (c.requires.0, omega (arith, short (goal.at.by_id-requires c).Start, c.put_bytes.auto.a))
 
 pub settle-requires : goal.settle-requires
 settle-requires c = record { le_size = (c.requires.0.0, (c.requires.1.0, (c.requires.1.1.0, omega (arith, short (goal.at.settle-requires c).Start, c.by_id.auto.table, c.put_bytes.auto.a)))); shuffled = shuffled c.args.size c.args.room c.args.n c.requires.1.0 c.args.table.now (holds (goal.at.settle-requires c).After-put_bytes) c.by_id.ensures; ordered = c.by_id.ensures.ordered }

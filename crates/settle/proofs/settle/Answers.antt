@@ -21,25 +21,13 @@ less : (c : After-drop_repeats-k) → c.drop_repeats-k.result * c.args.size ≤ 
 less c =
     mul-le-mul_right c.args.size (fewer c.args.size c.args.room c.args.n c.args.table.now c.args.src.now c.requires.le_size.1.0 c.requires.le_size.1.1.1 c.requires.shuffled c.requires.ordered c.drop_repeats-k.new.table c.drop_repeats-k.result c.drop_repeats-k.ensures)
 
-pub ids_rise-requires : goal.ids_rise-requires
-ids_rise-requires c = omega (arith, short (goal.at.ids_rise-requires c).Start)
-
-pub zero-requires : goal.zero-requires
-zero-requires c = omega (arith, short (goal.at.zero-requires c).Start)
-
 pub returns-then-ids_rise : goal.returns-then-ids_rise
 returns-then-ids_rise c =
     let own = holds_own c.args.size c.args.n c.args.table.now (omega (arith, short (goal.at.returns-then-ids_rise c).Start)) in
     let e = settled_sorted (records c.args.size c.args.n c.args.src.now) (records c.args.size c.args.n c.args.table.now) c.requires.shuffled (sym c.ids_rise.ensures ∙ c.if-ids_rise.true) in record { value = all_count c.args.size c.args.room c.args.n c.requires.le_size.1.0 c.args.table.now own e; table_after = c.zero.ensures ∙ all_bytes c.args.size c.args.room c.args.n c.requires.le_size.1.0 c.args.table.now own e }
 
-pub drop_repeats-k-requires : goal.drop_repeats-k-requires
-drop_repeats-k-requires c = (c.requires.le_size.0, omega (arith, short (goal.at.drop_repeats-k-requires c).Start))
-
 pub overflow_mul-k : goal.overflow_mul-k
 overflow_mul-k c = omega (arith, less (goal.at.overflow_mul-k c).After-drop_repeats-k, short (goal.at.overflow_mul-k c).Start)
-
-pub overflow_mul-room-2 : goal.overflow_mul-room-2
-overflow_mul-room-2 c = omega (arith, short (goal.at.overflow_mul-room-2 c).Start)
 
 pub zero-requires-2 : goal.zero-requires-2
 zero-requires-2 c = omega (arith, less (goal.at.zero-requires-2 c).After-drop_repeats-k, c.drop_repeats-k.auto.table, short (goal.at.zero-requires-2 c).Start)

@@ -1,8 +1,7 @@
--- `expiry::keep::drop_resolved` meets its contract: the bound on the field is the rules' test. Assumes nothing.
+-- `expiry::keep::drop_resolved` meets its contract: the test of the field is the rules'. Assumes nothing.
 use Rattle.rules.specs.Board.{pending_of}
-use Rattle.expiry.specs.Fields.{in_bound}
 use Rattle.expiry.proofs.keep.drop_resolved.Goals as goal
 
 pub returns : goal.returns
-unfolding in_bound pending_of
+unfolding pending_of
 returns c = record { value = c.keep_passing.ensures.value; table_after = c.keep_passing.ensures.table_after }

@@ -12,10 +12,8 @@ use Rattle.rules.specs.Records.{records, laid}
 use Rattle.rules.specs.Board.{confirmed_size, confirmed_of}
 use Rattle.lists.proofs.Lists.{keep_ext}
 use Rattle.table.specs.Fields.{field}
-use Rattle.expiry.specs.Fields.{passing, in_bound}
-use Rattle.expiry.specs.declared.keep.Bound.TheVariants.{AtLeast}
+use Rattle.expiry.specs.Fields.{passing}
 use Rattle.expiry.proofs.keep.prune_confirmed.Goals as goal
-use Rattle.expiry.proofs.keep.prune_confirmed.Goals.{then-far-n, else-far-n}
 
 recent : (h v : ℕ) → leb (h - columns) v ≡ leb (h - v) columns
 recent h v = go (leb (h - columns) v) refl
@@ -24,11 +22,11 @@ recent h v = go (leb (h - columns) v) refl
     go true e = sym (le-leb (h - v) columns (omega (arith, leb-true (h - columns) v e)))
     go false e = sym (lt-leb (h - v) columns (omega (arith, leb-false (h - columns) v e)))
 
-height_recent : (h m : ℕ) → m ≡ h - columns → (b : List ℕ) → passing 32 (AtLeast m) b ≡ leb (h - (confirmed_of b).height) columns
-unfolding in_bound confirmed_of
+height_recent : (h m : ℕ) → m ≡ h - columns → (b : List ℕ) → passing 32 (leb m) b ≡ leb (h - (confirmed_of b).height) columns
+unfolding confirmed_of
 height_recent h m e b = ap (λ (n : ℕ). leb n (field 32 b)) e ∙ recent h (field 32 b)
 
 pub returns : goal.returns
 returns c =
-    let m : c.if-far-n.least ≡ c.args.h.0 - columns = elim c.if-far-n.branch [ then-far-n w ↦ omega arith | else-far-n w ↦ omega arith ] in
-    let e = keep_ext (passing 32 (AtLeast c.if-far-n.least)) (λ b. leb (c.args.h.0 - (confirmed_of b).height) columns) (records confirmed_size c.args.used c.args.table.now) (height_recent c.args.h.0 c.if-far-n.least m) in record { value = c.keep_passing.ensures.value ∙ ap length e; table_after = c.keep_passing.ensures.table_after ∙ ap (λ (rs : List (List ℕ)). laid confirmed_size c.args.used rs c.args.table.now) e }
+    let m : c.saturating_sub-least.result ≡ c.args.h.0 - columns = c.saturating_sub-least.ensures in
+    let e = keep_ext (passing 32 (leb c.saturating_sub-least.result)) (λ b. leb (c.args.h.0 - (confirmed_of b).height) columns) (records confirmed_size c.args.used c.args.table.now) (height_recent c.args.h.0 c.saturating_sub-least.result m) in record { value = c.keep_passing.ensures.value ∙ ap length e; table_after = c.keep_passing.ensures.table_after ∙ ap (λ (rs : List (List ℕ)). laid confirmed_size c.args.used rs c.args.table.now) e }

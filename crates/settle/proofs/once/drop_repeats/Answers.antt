@@ -1,6 +1,4 @@
-use Prim.Native.Nat.{◌-◌}
 use native.Mathlib.Omega.{arith}
-use Rattle.ids.proofs.Records.{record_end}
 use Rattle.settle.proofs.Thinning.{kept_none, thinning_none, thinning_more, thinning_end}
 use Rattle.settle.proofs.once.drop_repeats.Goals as goal
 
@@ -10,16 +8,9 @@ returns-then-used-eq0 c = kept_none c.args.size c.args.used c.args.table.now c.i
 pub loop-i-init : goal.loop-i-init
 loop-i-init c = thinning_none c.args.size c.args.used c.args.table.now c.requires.1 (omega arith)
 
-pub keep_other-k-requires : goal.keep_other-k-requires
-keep_other-k-requires c =
-    (c.requires.0, (c.loop-i.invariant.some, (c.loop-i.invariant.k_le, omega (arith, c.loop-i.invariant.len, record_end c.args.size c.args.used c.loop-i.i (omega arith)))))
-
 pub loop-i-preserved : goal.loop-i-preserved
 loop-i-preserved c =
     thinning_more c.args.size c.args.used c.args.table.now c.requires.1 c.loop-i.table c.keep_other-k.new.table c.loop-i.k c.loop-i.i c.keep_other-k.result c.loop-i.invariant c.requires.0 (omega arith) c.keep_other-k.ensures c.keep_other-k.auto.table
-
-pub shape_of-table : goal.shape_of-table
-shape_of-table c = c.loop-i.invariant.len
 
 pub returns : goal.returns
 returns c =

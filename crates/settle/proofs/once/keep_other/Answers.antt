@@ -22,9 +22,6 @@ order s =
 pub overflow_mul-k : goal.overflow_mul-k
 overflow_mul-k c = omega (arith, order (goal.at.overflow_mul-k c).Start)
 
-pub same_ids-repeated-requires : goal.same_ids-repeated-requires
-same_ids-repeated-requires c = omega (arith, order (goal.at.same_ids-repeated-requires c).Start)
-
 pub returns : goal.returns
 returns c =
     moved_asked
