@@ -3,85 +3,75 @@
 #![tactic(auto)]
 
 ghost use Rattle.std.specs.Prelude.{◌≡◌};
-ghost use Rattle.print.specs.Page.{page, writes};
+ghost use Rattle.print.specs.Page.{page_of, writes};
 ghost use Rattle.premise.specs.Premise.{between, beside, premise};
 
 use kinds::{Height, MAX_GAP};
-use print::{put, put_decimal};
+use print::Cursor;
 
 // A sentence around two heights.
 #[tactic(auto, unfolding(print::specs::Page::writes, crate::specs::Premise::between))]
-fn put_between(
-    out: &mut [u8],
-    at: usize,
-    one: &[u8],
-    h: u32,
-    two: &[u8],
-    n: u32,
-    three: &[u8],
-) -> usize
-    ensures { page out.new result
-        ≡ writes (between one.now h two.now n three.now) (page out.old at) }
+fn put_between(out: &mut Cursor, one: &[u8], h: u32, two: &[u8], n: u32, three: &[u8])
+    ensures same_buffer { out.new.out.ghost_name ≡ out.old.out.ghost_name }
+    ensures written { page_of out.new
+        ≡ writes (between one.now h two.now n three.now) (page_of out.old) }
 {
-    let a = put(out, at, one);
-    let b = put_decimal(out, a, h as u64);
-    let c = put(out, b, two);
-    let d = put_decimal(out, c, n as u64);
-    put(out, d, three)
+    out.put(one);
+    out.put_decimal(h as u64);
+    out.put(two);
+    out.put_decimal(n as u64);
+    out.put(three);
 }
 
 // What is said of a file whose last height is h, beside a chain of height n.
 #[tactic(auto, unfolding(crate::specs::Premise::beside, crate::specs::Premise::ahead, crate::specs::Premise::behind, crate::specs::Premise::level))]
-fn put_beside(out: &mut [u8], at: usize, h: u32, n: u32) -> usize
-    ensures { page out.new result ≡ writes (beside h n) (page out.old at) }
+fn put_beside(out: &mut Cursor, h: u32, n: u32)
+    ensures same_buffer { out.new.out.ghost_name ≡ out.old.out.ghost_name }
+    ensures written { page_of out.new ≡ writes (beside h n) (page_of out.old) }
 {
     if n < h {
-        return put_between(
+        put_between(
             out,
-            at,
             b"premise fails: the last height ",
             h,
             b" is above the chain's ",
             n,
             b"\nuntil the chain passes the last height, nothing decays, nothing expires and nothing is pruned\n",
         );
+        return;
     }
     if MAX_GAP < n - h {
-        return put_between(
+        put_between(
             out,
-            at,
             b"premise fails: the last height ",
             h,
             b" is more than 4096 below the chain's ",
             n,
             b"\nthe next block is refused (GapTooWide) until empty blocks at most 4096 apart have led there\n",
         );
+        return;
     }
     put_between(
         out,
-        at,
         b"premise holds: the last height ",
         h,
         b" is at most the chain's ",
         n,
         b" and at most 4096 below it\n",
-    )
+    );
 }
 
 // What is said of a file with that last height; nothing where the chain's height is not told.
 #[tactic(auto, unfolding(crate::specs::Premise::premise, crate::specs::Premise::no_last, print::specs::Page::writes))]
-pub fn put_premise(out: &mut [u8], at: usize, chain: Option<Height>, last: Option<Height>) -> usize
-    ensures { page out.new result ≡ writes (premise chain last) (page out.old at) }
+pub fn put_premise(out: &mut Cursor, chain: Option<Height>, last: Option<Height>)
+    ensures same_buffer { out.new.out.ghost_name ≡ out.old.out.ghost_name }
+    ensures written { page_of out.new ≡ writes (premise chain last) (page_of out.old) }
 {
     let Some(tip) = chain else {
-        return at;
+        return;
     };
-    let Some(height) = last else {
-        return put(
-            out,
-            at,
-            b"premise holds: there is no last height, and the first block sets it\n",
-        );
-    };
-    put_beside(out, at, height.0, tip.0)
+    match last {
+        Some(height) => put_beside(out, height.0, tip.0),
+        None => out.put(b"premise holds: there is no last height, and the first block sets it\n"),
+    }
 }

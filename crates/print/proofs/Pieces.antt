@@ -13,7 +13,6 @@ writes_append (t ∷ a) b p = writes_append a b (write t p)
 pub both : (a b : List (List ℕ)) (p : Page) {q z : Page} → q ≡ writes a p → z ≡ writes b q → z ≡ writes (a ++ b) p
 both a b p e f = f ∙ ap (writes b) e ∙ sym (writes_append a b p)
 
--- what three calls put
-pub three : (s t u : List ℕ) (p : Page) {q r z : Page} → q ≡ write s p → r ≡ write t q → z ≡ write u r → z ≡ writes (s ∷ t ∷ u ∷ []) p
-unfolding writes
-three s t u p a b c = c ∙ ap (write u) (b ∙ ap (write t) a)
+-- pieces put on a page that is known otherwise
+pub put_on : (a : List (List ℕ)) {p q z : Page} → z ≡ writes a p → p ≡ q → z ≡ writes a q
+put_on a e f = e ∙ ap (writes a) f

@@ -1,23 +1,11 @@
-// Text put into a lent buffer at a cursor. Each function answers the next cursor. Where there is no room for the whole piece, nothing is put
-// and the cursor stays.
+// Text put into a lent buffer at a cursor. Where there is no room for the whole piece, nothing is put and the cursor stays.
 #![tactic(auto)]
 
-ghost use Rattle.std.specs.Prelude.{◌≡◌, ◌≤◌, [], ◌∷◌, drop, length};
+ghost use Rattle.std.specs.Prelude.{◌≡◌, ◌≤◌, drop, length};
 ghost use Rattle.print.specs.Page.{page, write};
 ghost use Rattle.print.specs.Numerals.{decimal};
 
-// Puts the byte b.
-pub fn put_byte(out: &mut [u8], at: usize, b: u8) -> usize
-    ensures { page out.new result ≡ write (b ∷ []) (page out.old at) }
-{
-    if at < out.len() {
-        out[at] = b;
-        return at + 1;
-    }
-    at
-}
-
-// Puts the bytes of text.
+// Puts the bytes of text, and answers the next cursor.
 pub fn put(out: &mut [u8], at: usize, text: &[u8]) -> usize
     ensures { page out.new result ≡ write text.now (page out.old at) }
 {
@@ -31,13 +19,53 @@ pub fn put(out: &mut [u8], at: usize, text: &[u8]) -> usize
     at + text.len()
 }
 
-// Puts the decimal digits of n.
-pub fn put_decimal(out: &mut [u8], at: usize, n: u64) -> usize
-    ensures { page out.new result ≡ write (decimal n) (page out.old at) }
-{
-    let mut text = [0u8; 20];
-    let k = digits_into(n, &mut text);
-    put(out, at, &text[k..])
+// A lent buffer and its cursor.
+#[derive(Drop)]
+pub struct Cursor<'a> {
+    pub out: &'a mut [u8],
+    pub at: usize,
+}
+
+impl<'a> Cursor<'a> {
+    ghost use Rattle.std.specs.Prelude.{◌≡◌, [], ◌∷◌};
+    ghost use Rattle.print.specs.Page.{page, page_of, write};
+    ghost use Rattle.print.specs.Numerals.{decimal};
+
+    // The start of a buffer.
+    pub fn new(out: &'a mut [u8]) -> Self
+        ensures same_buffer { result.out.ghost_name ≡ out.entry.ghost_name }
+        ensures start { page_of result ≡ page out.old 0 }
+    {
+        Cursor { out, at: 0 }
+    }
+
+    // Puts the bytes of text.
+    pub fn put(&mut self, text: &[u8])
+        ensures same_buffer { self.new.out.ghost_name ≡ self.old.out.ghost_name }
+        ensures written { page_of self.new ≡ write text.now (page_of self.old) }
+    {
+        let at = self.at;
+        let end = put(self.out, at, text);
+        self.at = end;
+    }
+
+    // Puts the byte b.
+    pub fn put_byte(&mut self, b: u8)
+        ensures same_buffer { self.new.out.ghost_name ≡ self.old.out.ghost_name }
+        ensures written { page_of self.new ≡ write (b ∷ []) (page_of self.old) }
+    {
+        self.put(&[b]);
+    }
+
+    // Puts the decimal digits of n.
+    pub fn put_decimal(&mut self, n: u64)
+        ensures same_buffer { self.new.out.ghost_name ≡ self.old.out.ghost_name }
+        ensures written { page_of self.new ≡ write (decimal n) (page_of self.old) }
+    {
+        let mut text = [0u8; 20];
+        let k = digits_into(n, &mut text);
+        self.put(&text[k..]);
+    }
 }
 
 // Puts the decimal digits of n at the end of text, and answers where they begin.

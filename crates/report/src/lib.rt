@@ -10,13 +10,14 @@ ghost use Rattle.kinds.specs.Answers.{read_answer, state_or};
 ghost use Rattle.rules.specs.Estimator.{fresh};
 ghost use Rattle.rules.specs.Memory.{state_of};
 ghost use Rattle.rules.specs.Board.{pending_size, confirmed_size};
-ghost use Rattle.print.specs.Page.{page, writes};
+ghost use Rattle.print.specs.Page.{page, page_of, writes};
 ghost use Rattle.report.specs.Shown.{told, named_by, reach, shown, printed};
 ghost use Rattle.report.specs.Rates.{answered};
 
 use estimator::from_history_bytes;
 use kinds::{COUNTS, Height, Horizon, ReadError, State, WIDE_HISTORY_VERSION};
 use lines::{put_accepted, put_refused, put_version};
+use print::Cursor;
 use reader::number;
 
 // The most bytes that are printed.
@@ -25,21 +26,22 @@ pub const PAGE: usize = 2048;
 // What is told of a reading: the state and the rates, or why it was refused.
 #[tactic(auto, unfolding(crate::specs::Shown::told, crate::specs::Shown::refusal, crate::specs::Shown::name, crate::specs::Shown::carried, crate::specs::Shown::line))]
 fn tell(
-    out: &mut [u8],
+    out: &mut Cursor,
     chain: Option<Height>,
     reading: Result<State, ReadError>,
     confirmed: &[f64],
     resolved: &[f64],
     on: Horizon,
-) -> usize
-    ensures { page out.new result
-        ≡ writes (told chain on (read_answer reading) (state_or (state_of fresh) reading) (answered (state_or (state_of fresh) reading) confirmed.now resolved.now on)) (page out.old 0) }
+)
+    ensures same_buffer { out.new.out.ghost_name ≡ out.old.out.ghost_name }
+    ensures written { page_of out.new
+        ≡ writes (told chain on (read_answer reading) (state_or (state_of fresh) reading) (answered (state_or (state_of fresh) reading) confirmed.now resolved.now on)) (page_of out.old) }
 {
     match reading {
         Ok(state) => put_accepted(out, chain, state, confirmed, resolved, on),
         Err(ReadError::Damaged) => put_refused(out, b"Damaged"),
         Err(ReadError::BadMagic) => put_refused(out, b"BadMagic"),
-        Err(ReadError::UnknownVersion(v)) => put_version(out, 0, v),
+        Err(ReadError::UnknownVersion(v)) => put_version(out, v),
         Err(ReadError::Corrupt) => put_refused(out, b"Corrupt"),
         Err(ReadError::NoRoom) => put_refused(out, b"NoRoom"),
     }
@@ -74,11 +76,14 @@ pub fn report(
         (shown (reach (length pending.old / pending_size) (length recent.old / confirmed_size) longest) chain on file.now)
         out.old }
 {
+    let mut shown = Cursor::new(out);
     if longest < file.len() {
-        return put_refused(out, b"TooLong");
+        put_refused(&mut shown, b"TooLong");
+        return shown.at;
     }
     let mut confirmed = [0.0f64; COUNTS];
     let mut resolved = [0.0f64; COUNTS];
     let reading = from_history_bytes(file, &mut confirmed, &mut resolved, pending, recent, on);
-    tell(out, chain, reading, &confirmed, &resolved, on)
+    tell(&mut shown, chain, reading, &confirmed, &resolved, on);
+    shown.at
 }

@@ -2,5 +2,5 @@
 use Rattle.print.proofs.Pieces.{both}
 use Rattle.report.proofs.lines.put_accepted.Goals as goal
 
-pub returns : goal.returns
-returns c = both _ _ _ c.put_premise-a.ensures (both _ _ _ c.put_state-b.ensures c.put_targets.ensures)
+pub returns-clause-written : goal.returns-clause-written
+returns-clause-written c = both _ _ _ c.put_premise.ensures.written (both _ _ _ c.put_state.ensures.written c.put_targets.ensures.written)

@@ -5,9 +5,9 @@ use Rattle.report.specs.Rates.{carried_rate, answered}
 use Rattle.report.proofs.Targets.{one_line}
 use Rattle.report.proofs.lines.put_target.Goals as goal
 
-pub returns : goal.returns
+pub returns-clause-written : goal.returns-clause-written
 unfolding answered
-returns c =
+returns-clause-written c =
     let a = c.args in
-    one_line (answered a.state a.confirmed.now a.resolved.now a.on) a.t _ _ c.put_decimal-a.ensures c.put_byte-b.ensures c.put_rate-c.ensures c.put_byte.ensures
+    one_line (answered a.state a.confirmed.now a.resolved.now a.on) a.t _ _ c.put_decimal.ensures.written c.put_byte.ensures.written c.put_rate.ensures.written c.put_byte-2.ensures.written
     (ap (λ (x : Answer). carried_rate x.carries) c.estimate-e.ensures)

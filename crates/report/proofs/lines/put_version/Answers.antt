@@ -6,6 +6,7 @@ use Rattle.report.specs.Words.{space, unknown_version}
 use Rattle.report.specs.Shown.{line, name, carried, refusal}
 use Rattle.report.proofs.lines.put_version.Goals as goal
 
-pub returns : goal.returns
+pub returns-clause-written : goal.returns-clause-written
 unfolding writes line refusal name carried
-returns c = c.put_number.ensures ∙ ap (writes (line space (decimal c.args.v))) (c.put-b.ensures ∙ ap (write unknown_version) c.put-a.ensures)
+returns-clause-written c =
+    c.put_number.ensures.written ∙ ap (writes (line space (decimal c.args.v))) (c.put-2.ensures.written ∙ ap (write unknown_version) c.put.ensures.written)
