@@ -29,13 +29,7 @@ pub(crate) struct Held<'a> {
 
 impl<'a> Held<'a> {
     fn estimate(self, target: Blocks) -> Result<Option<FeeRate>, Damaged> {
-        estimate(
-            self.state,
-            self.confirmed,
-            self.resolved,
-            target,
-            self.on,
-        )
+        estimate(self.state, self.confirmed, self.resolved, target, self.on)
     }
 }
 

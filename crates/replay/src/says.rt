@@ -54,7 +54,10 @@ pub(crate) fn say_reply(out: &impl Print, reply: Reply) -> io::Result<()> {
 }
 
 // An estimate as a line.
-pub(crate) fn say_estimate(out: &impl Print, e: Result<Option<FeeRate>, Damaged>) -> io::Result<()> {
+pub(crate) fn say_estimate(
+    out: &impl Print,
+    e: Result<Option<FeeRate>, Damaged>,
+) -> io::Result<()> {
     match e {
         Err(damaged) => say_line(out, damaged.number() as u64),
         Ok(None) => say_text(out, "none\n"),

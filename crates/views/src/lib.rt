@@ -93,7 +93,11 @@ pub fn inspect_text(
 }
 
 // Reads a history, and writes what `inspect` prints of it beside a chain; whether all was written.
-pub fn inspect(input: &mut impl Read, output: &impl Print, chain: Option<Height>) -> io::Result<bool> {
+pub fn inspect(
+    input: &mut impl Read,
+    output: &impl Print,
+    chain: Option<Height>,
+) -> io::Result<bool> {
     let mut file = zeros::<INSPECT_BUFFER>();
     let n = read_full(input, &mut file)?;
     let mut pending = zeros::<INSPECT_PENDING>();
