@@ -5,6 +5,7 @@ use mathlib.Core.Bool.{true, false}
 use mathlib.Core.List.{List, [], ◌∷◌, ◌++◌}
 use lib.ListN.{replicate}
 use lib.Ieee.{nan, inf, of_bits}
+use Rattle.std.specs.Prelude.{Some, None}
 use Rattle.kinds.specs.declared.Horizon.{Horizon}
 use Rattle.kinds.specs.Last.{Last}
 use Rattle.kinds.specs.declared.State.{State}

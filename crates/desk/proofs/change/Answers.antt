@@ -10,26 +10,29 @@ use Rattle.desk.proofs.change.Goals as goal
 
 pub returns-in-State : goal.returns-in-State
 unfolding operation_does
-returns-in-State c = by _ _ _ _ _ _ Operation.State _ c.in-State.is (both _ _ _ _ (c.silent-in-State.ensures ∙ ap (silent true) c.state_in.ensures) refl)
+returns-in-State c = rw c.in-Some.is (by _ _ _ _ _ _ Operation.State _ c.in-State.is (both _ _ _ _ (c.silent-in-State.ensures ∙ ap (silent true) c.state_in.ensures) refl))
 
 pub returns-in-Start : goal.returns-in-Start
 unfolding operation_does
-returns-in-Start c = by _ _ _ _ _ _ Operation.Start _ c.in-Start.is c.start.ensures
+returns-in-Start c = rw c.in-Some.is (by _ _ _ _ _ _ Operation.Start _ c.in-Start.is c.start.ensures)
 
 pub returns-in-Enter : goal.returns-in-Enter
 unfolding operation_does in_pending
-returns-in-Enter c = by _ _ _ _ _ _ Operation.Enter _ c.in-Enter.is (ap (in_pending (given c.args.confirmed c.args.resolved c.args.pending c.args.recent)) c.enter.ensures)
+returns-in-Enter c = rw c.in-Some.is (by _ _ _ _ _ _ Operation.Enter _ c.in-Enter.is (ap (in_pending (given c.args.confirmed c.args.resolved c.args.pending c.args.recent)) c.enter.ensures))
 
 pub returns-in-Leave : goal.returns-in-Leave
 unfolding operation_does in_pending
-returns-in-Leave c = by _ _ _ _ _ _ Operation.Leave _ c.in-Leave.is (ap (in_pending (given c.args.confirmed c.args.resolved c.args.pending c.args.recent)) c.leave.ensures)
+returns-in-Leave c = rw c.in-Some.is (by _ _ _ _ _ _ Operation.Leave _ c.in-Leave.is (ap (in_pending (given c.args.confirmed c.args.resolved c.args.pending c.args.recent)) c.leave.ensures))
 
 pub returns-in-Block : goal.returns-in-Block
-returns-in-Block c = c.block.ensures ∙ sym (blocks _ _ _ _ _ _ c.in-Block.is)
+returns-in-Block c = rw c.in-Some.is (c.block.ensures ∙ sym (blocks _ _ _ _ _ _ c.in-Block.is))
 
 pub returns-in-Read : goal.returns-in-Read
-returns-in-Read c = c.read.ensures ∙ sym (reads _ _ _ _ _ _ c.in-Read.is)
+returns-in-Read c = rw c.in-Some.is (c.read.ensures ∙ sym (reads _ _ _ _ _ _ c.in-Read.is))
 
-pub returns-in_default : goal.returns-in_default
-returns-in_default c =
-    both _ _ _ _ c.silent-in_default.ensures refl ∙ ap (on_memory c.args.state) c.lay.ensures ∙ sym (others _ _ _ _ _ _ c.in_default.not-State c.in_default.not-Start c.in_default.not-Enter c.in_default.not-Leave c.in_default.not-Block c.in_default.not-BlockRaw c.in_default.not-Read c.in_default.not-Again)
+pub returns-in_default-operation : goal.returns-in_default-operation
+returns-in_default-operation c =
+    rw c.in-Some.is
+    (both _ _ _ _ c.silent-in_default-operation.ensures refl
+    ∙ ap (on_memory c.args.state) c.lay.ensures
+    ∙ sym (others _ _ _ _ _ _ c.in_default-operation.not-State c.in_default-operation.not-Start c.in_default-operation.not-Enter c.in_default-operation.not-Leave c.in_default-operation.not-Block c.in_default-operation.not-BlockRaw c.in_default-operation.not-Read c.in_default-operation.not-Again))
