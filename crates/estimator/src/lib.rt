@@ -15,8 +15,8 @@ ghost use Rattle.format.specs.Calls.{output, write_call, read_call};
 
 use history::own_version;
 use kinds::{
-    BlockError, Blocks, Damaged, EnterError, FeeRate, Height, Horizon, LeaveError, ReadError, State,
-    WriteError,
+    BlockError, Blocks, Damaged, EnterError, FeeRate, Height, Horizon, LeaveError, ReadError,
+    State, WriteError,
 };
 
 // A fresh start: no count, no record, no last height.
@@ -48,7 +48,12 @@ pub fn tx_entered(
 }
 
 // Leave (id).
-pub fn tx_left(state: State, pending: &mut [u8], id: &[u8; 32], on: Horizon) -> Result<State, LeaveError>
+pub fn tx_left(
+    state: State,
+    pending: &mut [u8],
+    id: &[u8; 32],
+    on: Horizon,
+) -> Result<State, LeaveError>
     ensures { outcome (leave_answer result) (state_or state result) pending.new ≡ leave_call (board_of on) state pending.old id.now }
 {
     entries::tx_left(state, pending, id, on)
@@ -68,16 +73,7 @@ pub fn block_connected(
     ensures { outcome (block_answer result) (state_or state result) (after confirmed resolved pending recent)
         ≡ block_call (board_of on) state (before confirmed resolved pending recent) ids.now height }
 {
-    blocks::block_connected(
-        state,
-        confirmed,
-        resolved,
-        pending,
-        recent,
-        ids,
-        height,
-        on,
-    )
+    blocks::block_connected(state, confirmed, resolved, pending, recent, ids, height, on)
 }
 
 // The rate at which a transaction is confirmed within the target, in blocks: up to 25 on the base board, up to 150 on the wide one, in the column that covers it.

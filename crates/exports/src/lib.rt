@@ -175,13 +175,6 @@ pub fn from_history_bytes(
     if !room_and_word(state, carried) {
         return 1;
     }
-    let reading = estimator::from_history_bytes(
-        bytes,
-        confirmed,
-        resolved,
-        pending,
-        recent,
-        on,
-    );
+    let reading = estimator::from_history_bytes(bytes, confirmed, resolved, pending, recent, on);
     tell_reading(state, carried, reading)
 }
