@@ -11,14 +11,14 @@ pub struct Reader<'a> {
     pub bytes: &'a [u8],
 }
 
-// A reader of all these bytes.
-fn new<'a>(bytes: &'a [u8]) -> Reader<'a>
-    ensures { result.bytes ≡ bytes.entry }
-{
-    Reader { bytes }
-}
-
 impl<'a> Reader<'a> {
+    // A reader of all these bytes.
+    fn new(bytes: &'a [u8]) -> Self
+        ensures { result.bytes ≡ bytes.entry }
+    {
+        Reader { bytes }
+    }
+
     // The take step: the first n bytes are handed back, the head of what was lent itself and never a copy, and the reader goes past them. Where there are fewer, all of them, and nothing is left.
     pub fn take(&mut self, n: usize) -> &'a [u8]
         ensures { (result.ref_ptr ≡ self.old.bytes.ref_ptr) × (result.now ≡ take n self.old.bytes.now) × (self.new.bytes.now ≡ drop n self.old.bytes.now) }
@@ -34,7 +34,7 @@ impl<'a> Reader<'a> {
 pub fn part(s: &[u8], at: usize, n: usize) -> &[u8]
     ensures { result.now ≡ take n (drop at s.now) }
 {
-    let mut r = new(s);
+    let mut r = Reader::new(s);
     r.take(at);
     r.take(n)
 }

@@ -7,7 +7,7 @@ ghost use Rattle.format.specs.File.{version_told};
 
 use kinds::{FileVersion, PENDING_SIZE};
 
-// The number of a version.
+// The number of a version. (No `From`: an impl would stand in `kinds`, below the definition `version_told` that the contract names.)
 pub fn number_of(version: FileVersion) -> u32
     ensures { result ≡ (version_told version).number }
 {
@@ -34,7 +34,6 @@ pub fn record_size(version: FileVersion) -> usize
     ensures lower_bound { (pending_size ≤ result) × (result ≤ 64) }
 {
     match version {
-        FileVersion::One => PENDING_SIZE,
-        FileVersion::Three => PENDING_SIZE,
+        FileVersion::One | FileVersion::Three => PENDING_SIZE,
     }
 }
