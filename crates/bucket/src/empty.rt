@@ -1,7 +1,7 @@
 // Rows that hold only zeros, and buckets whose rows are seen to be in use.
-ghost use Rattle.std.specs.Prelude.{◌≡◌, not, ◌&&◌, ◌≤◌, ◌<◌, length};
-ghost use Rattle.rules.specs.Ladder.{buckets};
-ghost use Rattle.rules.specs.Counts.{columns, places_of_counts, cell, is_zero, empty_row};
+ghost use Rattle.std.specs.Prelude.{◌≡◌, not, ◌&&◌};
+ghost use Rattle.rules.specs.Counts.{columns, cell, is_zero, empty_row};
+ghost use Rattle.bucket.specs.Holds.{Holds, BothHold};
 ghost use Rattle.lists.specs.Part.{part};
 
 use kinds::MAX_CONF_TARGET;
@@ -11,7 +11,7 @@ const LAST: usize = MAX_CONF_TARGET - 1;
 
 // Whether the row of bucket b, in the slice of one kind, holds only zeros, of either sign. The fold has no way out, so that it goes several counts at a time.
 pub fn row_is_empty(counts: &[f64], b: usize) -> bool
-    requires { (b < buckets) × (places_of_counts ≤ length counts.now) }
+    requires { Holds counts.now b }
     ensures { result ≡ empty_row (part columns b counts.now) }
 {
     let at = b * MAX_CONF_TARGET;
@@ -23,7 +23,7 @@ pub fn row_is_empty(counts: &[f64], b: usize) -> bool
 // Whether in both rows of bucket b the last count is not zero. A row that holds anything mostly holds something there, and then none of its other counts is
 // looked at.
 pub fn both_in_use(confirmed: &[f64], resolved: &[f64], b: usize) -> bool
-    requires { (b < buckets) × (places_of_counts ≤ length confirmed.now) × (places_of_counts ≤ length resolved.now) }
+    requires { BothHold confirmed.now resolved.now b }
     ensures { result ≡ (not (is_zero (cell confirmed.now b columns)) && not (is_zero (cell resolved.now b columns))) }
 {
     let last = b * MAX_CONF_TARGET + LAST;

@@ -1,7 +1,7 @@
 // One bucket's counts, taken out of the lent slices by value, and put back.
-ghost use Rattle.std.specs.Prelude.{◌≡◌, ◌≤◌, ◌<◌, length};
-ghost use Rattle.rules.specs.Ladder.{buckets};
-ghost use Rattle.rules.specs.Counts.{columns, places_of_counts};
+ghost use Rattle.std.specs.Prelude.{◌≡◌};
+ghost use Rattle.rules.specs.Counts.{columns};
+ghost use Rattle.bucket.specs.Holds.{Holds, BothHold};
 ghost use Rattle.lists.specs.Part.{part, part_put};
 
 use crate::Bucket;
@@ -9,7 +9,7 @@ use kinds::MAX_CONF_TARGET;
 
 // The counts of bucket b, out of the slice of one kind.
 fn row_out(counts: &[f64], b: usize) -> [f64; MAX_CONF_TARGET]
-    requires { (b < buckets) × (places_of_counts ≤ length counts.now) }
+    requires { Holds counts.now b }
     ensures { result ≡ part columns b counts.now }
 {
     let at = b * MAX_CONF_TARGET;
@@ -20,7 +20,7 @@ fn row_out(counts: &[f64], b: usize) -> [f64; MAX_CONF_TARGET]
 
 // Puts the counts of bucket b into the slice of one kind.
 pub fn row_in(counts: &mut [f64], b: usize, row: [f64; MAX_CONF_TARGET])
-    requires { (b < buckets) × (places_of_counts ≤ length counts.old) }
+    requires { Holds counts.old b }
     ensures { counts.new ≡ part_put columns b row counts.old }
 {
     let at = b * MAX_CONF_TARGET;
@@ -29,7 +29,7 @@ pub fn row_in(counts: &mut [f64], b: usize, row: [f64; MAX_CONF_TARGET])
 
 // Both kinds of counts of bucket b.
 pub fn bucket_out(confirmed: &[f64], resolved: &[f64], b: usize) -> Bucket
-    requires { (b < buckets) × (places_of_counts ≤ length confirmed.now) × (places_of_counts ≤ length resolved.now) }
+    requires { BothHold confirmed.now resolved.now b }
     ensures { (result.confirmed ≡ part columns b confirmed.now) × (result.resolved ≡ part columns b resolved.now) }
 {
     let c = row_out(confirmed, b);
@@ -42,7 +42,7 @@ pub fn bucket_out(confirmed: &[f64], resolved: &[f64], b: usize) -> Bucket
 
 // Puts both kinds of counts of bucket b back.
 pub fn bucket_in(confirmed: &mut [f64], resolved: &mut [f64], b: usize, x: Bucket)
-    requires { (b < buckets) × (places_of_counts ≤ length confirmed.old) × (places_of_counts ≤ length resolved.old) }
+    requires { BothHold confirmed.old resolved.old b }
     ensures { (confirmed.new ≡ part_put columns b x.confirmed confirmed.old) × (resolved.new ≡ part_put columns b x.resolved resolved.old) }
 {
     let c = x.confirmed;

@@ -2,10 +2,10 @@
 // counts of one kind of one bucket, that holds only zeros is not written: the factor is above zero, so that each of them would be stored as it stands.
 #![tactic(auto)]
 
-ghost use Rattle.std.specs.Prelude.{◌≡◌, cond, ◌++◌, map, ◌≤◌, ◌<◌, length, take, drop};
-ghost use Rattle.rules.specs.Ladder.{buckets};
+ghost use Rattle.std.specs.Prelude.{◌≡◌, cond, ◌++◌, map, ◌≤◌, length, take, drop};
 ghost use Rattle.rules.specs.Counts.{columns, places_of_counts, apply_decay};
 ghost use Rattle.floats.specs.Factor.{Factor};
+ghost use Rattle.bucket.specs.Holds.{Holds, BothHold};
 ghost use Rattle.lists.specs.Part.{part_put};
 ghost use Rattle.decay.specs.Decay.{often, row_decayed};
 
@@ -14,7 +14,7 @@ use kinds::{BUCKET_COUNT, Blocks, MAX_CONF_TARGET};
 
 // Puts a row back into the slice of one kind, unless the row that stands there is empty: then nothing is stored.
 fn put_back(counts: &mut [f64], b: usize, row: [f64; MAX_CONF_TARGET], empty: bool)
-    requires { (b < buckets) × (places_of_counts ≤ length counts.old) }
+    requires { Holds counts.old b }
     ensures { counts.new ≡ cond empty counts.old (part_put columns b row counts.old) }
 {
     if !empty {
@@ -58,7 +58,7 @@ fn decayed(x: Bucket, factor: f64, times: u32) -> Bucket
 
 // Multiplies the counts of bucket b by the factor, `times` times, and stores only the rows that are not empty.
 fn decay_rows(confirmed: &mut [f64], resolved: &mut [f64], b: usize, factor: f64, times: u32)
-    requires b_lt_buckets { (b < buckets) × (places_of_counts ≤ length confirmed.old) × (places_of_counts ≤ length resolved.old) }
+    requires held { BothHold confirmed.old resolved.old b }
     requires factor { Factor factor }
     ensures confirmed_after { confirmed.new ≡ row_decayed b factor times confirmed.old }
     ensures resolved_after { resolved.new ≡ row_decayed b factor times resolved.old }
@@ -77,7 +77,7 @@ fn decay_rows(confirmed: &mut [f64], resolved: &mut [f64], b: usize, factor: f64
 
 // Multiplies the counts of bucket b by the factor, `times` times: the whole bucket where both rows are seen to be in use, else row by row.
 fn decay_bucket(confirmed: &mut [f64], resolved: &mut [f64], b: usize, factor: f64, times: u32)
-    requires b_lt_buckets { (b < buckets) × (places_of_counts ≤ length confirmed.old) × (places_of_counts ≤ length resolved.old) }
+    requires held { BothHold confirmed.old resolved.old b }
     requires factor { Factor factor }
     ensures confirmed_after { confirmed.new ≡ row_decayed b factor times confirmed.old }
     ensures resolved_after { resolved.new ≡ row_decayed b factor times resolved.old }
