@@ -14,7 +14,10 @@ fn row_out(counts: &[f64], b: usize) -> [f64; MAX_CONF_TARGET]
 {
     let at = b * MAX_CONF_TARGET;
     let mut row = [0.0f64; MAX_CONF_TARGET];
-    row.copy_from_slice(&counts[at..at + MAX_CONF_TARGET]);
+    // `copy_from_slice` misses the bar of speed: a row is longer than what the compiler copies in place, and each copy is a call.
+    for i in 0..MAX_CONF_TARGET {
+        row[i] = counts[at + i];
+    }
     row
 }
 
@@ -24,7 +27,10 @@ pub fn row_in(counts: &mut [f64], b: usize, row: [f64; MAX_CONF_TARGET])
     ensures { counts.new ≡ part_put columns b row counts.old }
 {
     let at = b * MAX_CONF_TARGET;
-    counts[at..at + MAX_CONF_TARGET].copy_from_slice(&row);
+    // So here: each copy would be a call.
+    for i in 0..MAX_CONF_TARGET {
+        counts[at + i] = row[i];
+    }
 }
 
 // Both kinds of counts of bucket b.

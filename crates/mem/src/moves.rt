@@ -8,7 +8,10 @@ pub fn shift_up(a: &mut [u8], from: usize, to: usize, by: usize)
     requires { (from ≤ to) × (to + by ≤ length a.old) }
     ensures { a.new ≡ shifted_up from to by a.old }
 {
-    a.copy_within(from..to, from + by);
+    // `copy_within` misses the bar of speed: it asks at each call which way to go.
+    for i in (from..to).rev() {
+        a[i + by] = a[i];
+    }
 }
 
 // Moves `n` bytes from `from + by` on down by `by`.
@@ -16,8 +19,10 @@ pub fn shift_down(a: &mut [u8], from: usize, by: usize, n: usize)
     requires { from + by + n ≤ length a.old }
     ensures { a.new ≡ shifted_down from by n a.old }
 {
-    let start = from + by;
-    a.copy_within(start..start + n, from);
+    // So here: a record's move grew from 8 instructions to 19.
+    for i in 0..n {
+        a[from + i] = a[from + by + i];
+    }
 }
 
 // Zeroes the bytes from `from` to `to`.
