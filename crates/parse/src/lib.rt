@@ -16,7 +16,7 @@ use kinds::{BUCKETS_SIZE, FileVersion, Height, ReadError};
 use tables::read_tables;
 
 // What is read of a file before its counts and records: the last height, and how many records each table has.
-#[derive(Clone, Copy)]
+#[derive(Clone, Copy, Debug, PartialEq, Eq)]
 pub struct Checked {
     pub last: Option<Height>,
     pub pending: usize,

@@ -14,7 +14,7 @@ use reader::{number, part};
 use version::record_size;
 
 // How many records each table has.
-#[derive(Clone, Copy)]
+#[derive(Clone, Copy, Debug, PartialEq, Eq)]
 pub struct Sizes {
     pub pending: usize,
     pub recent: usize,
