@@ -21,7 +21,7 @@ loop-i-init c = (zero-le, ((refl, refl), (refl, refl)))
 
 pub load_bucket-requires : goal.load_bucket-requires
 load_bucket-requires c =
-    let f = bucket_long c.args.s.now (c.args.at + 408 * c.loop-i.i) c.part-bytes.result.now c.part-bytes.ensures (omega arith) in record { bucket_size_in_bounds = (omega (arith, f), (omega arith, (omega arith, omega arith))); s_value = rows_read c.args.s.now c.args.at (omega arith) c.requires.s_value c.loop-i.i (omega arith) c.part-bytes.result.now c.part-bytes.ensures }
+    let f = bucket_long c.args.s.now (c.args.at + 408 * c.loop-i.i) c.part-bytes.result.now c.part-bytes.ensures (omega arith) in record { bucket_size_in_bounds = (omega (arith, f), (omega arith, omega arith, omega arith)); s_value = rows_read c.args.s.now c.args.at (omega arith) c.requires.s_value c.loop-i.i (omega arith) c.part-bytes.result.now c.part-bytes.ensures }
 
 pub loop-i-preserved : goal.loop-i-preserved
 loop-i-preserved c =
