@@ -54,14 +54,6 @@ counted g =
 room : (z : After-record_size-size) → z.args.used * z.record_size-size.result ≤ length z.args.pending.now
 room z = subst (λ (m : ℕ). z.args.used * m ≤ length z.args.pending.now) (sym z.record_size-size.ensures.value) z.requires.places_of_counts_in_bounds.2
 
-pub pending_at-r-requires : goal.pending_at-r-requires
-pending_at-r-requires c = (c.record_size-size.ensures.lower_bound, (c.requires.places_of_counts_in_bounds.1, room (goal.at.pending_at-r-requires c).After-record_size-size))
-
-pub gain_columns-requires : goal.gain_columns-requires
-gain_columns-requires c =
-    let b = c.pending_at-r.ensures.bucket_value ∙ ap (λ (q : Pending). q.bucket) (read_is_that (goal.at.gain_columns-requires c).After-pending_at-r) in
-    omega (arith, b, c.outwaited-reach.ensures, c.requires.places_of_counts_in_bounds.0, c.requires.i_bound)
-
 -- where it is raised, or not
 pub returns-then-r-reach : goal.returns-then-r-reach
 returns-then-r-reach c = record {
@@ -82,6 +74,3 @@ returns-else-r-reach c =
           ∙ ap (λ (l : List (List ℕ)). laid size c.args.used l c.args.pending.now) (set-get_or rs c.args.i [])
           ∙ laid_same size c.args.used c.args.pending.now c.requires.places_of_counts_in_bounds.2);
     }
-
-pub put_field-requires : goal.put_field-requires
-put_field-requires c = omega (arith, room (goal.at.put_field-requires c).After-record_size-size, c.record_size-size.ensures.lower_bound)

@@ -2,7 +2,6 @@
 use mathlib.Core.Path.{sym, ap, subst, ◌∙◌}
 use mathlib.Core.List.{List, map}
 use Prim.Native.Nat.{ℕ, ◌*◌, ◌≤◌}
-use native.Mathlib.Omega.{arith}
 use lib.ListN.{length}
 use Rattle.rules.specs.Lists.{keep}
 use Rattle.rules.specs.Records.{records, laid}
@@ -16,10 +15,6 @@ use Rattle.expiry.proofs.expire_pending.Goals.{After-record_size-size}
 -- the room for the records, in their bytes as the code has them
 room : (n : After-record_size-size) → n.args.used * n.record_size-size.result ≤ length n.args.pending.now
 room n = subst (λ (m : ℕ). n.args.used * m ≤ length n.args.pending.now) (sym n.record_size-size.ensures.value) n.requires.places_of_counts_in_bounds.1
-
-pub drop_resolved-requires : goal.drop_resolved-requires
-drop_resolved-requires c =
-    (c.record_size-size.ensures.lower_bound, omega (arith, room (goal.at.drop_resolved-requires c).After-record_size-size, c.expire_all.auto))
 
 pub returns : goal.returns
 returns c =

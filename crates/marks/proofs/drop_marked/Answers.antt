@@ -2,7 +2,6 @@ use mathlib.Core.Path.{◌≡◌, ◌∙◌}
 use Prim.Native.Nat.{ℕ, ◌*◌, ◌≤◌}
 use native.Mathlib.Omega.{arith}
 use native.Mathlib.Nat.{mul-le-mul_right}
-use Rattle.ids.proofs.Records.{record_end}
 use Rattle.marks.proofs.Dropping.{dropping_none, dropping_more, dropping_end}
 use Rattle.marks.proofs.drop_marked.Goals as goal
 use Rattle.marks.proofs.drop_marked.Goals.{Start}
@@ -13,28 +12,9 @@ past s k h = mul-le-mul_right s.args.size h
 pub loop-i-init : goal.loop-i-init
 loop-i-init c = dropping_none _ _ _ _
 
-pub bounds-marks-i : goal.bounds-marks-i
-bounds-marks-i c = omega (arith, c.requires.1.1, c.loop-i-test.true)
-
-pub keep_record-k-requires : goal.keep_record-k-requires
-keep_record-k-requires c =
-    (omega arith, (c.loop-i.invariant.k_le, omega (arith, record_end c.args.size c.args.used c.loop-i.i c.loop-i-test.true, c.loop-i.invariant.len, c.requires.1.0)))
-
 pub loop-i-preserved : goal.loop-i-preserved
 loop-i-preserved c =
     dropping_more _ _ _ _ c.loop-i.k c.loop-i.i c.keep_record-k.result c.loop-i.table c.keep_record-k.new.table c.loop-i-test.true c.requires.1.1 c.loop-i.invariant c.keep_record-k.ensures c.keep_record-k.auto.table
-
-pub overflow_mul-k : goal.overflow_mul-k
-overflow_mul-k c = (omega (arith, past (goal.at.overflow_mul-k c).Start c.loop-i.k (omega (arith, c.loop-i.invariant.k_le, c.loop-i.invariant.i_le)), c.requires.1.0))
-
-pub overflow_mul-used : goal.overflow_mul-used
-overflow_mul-used c = omega (arith, c.requires.1.0)
-
-pub zero-requires : goal.zero-requires
-zero-requires c = ((past (goal.at.zero-requires c).Start c.loop-i.k (omega (arith, c.loop-i.invariant.k_le, c.loop-i.invariant.i_le)), omega (arith, c.requires.1.0, c.loop-i.invariant.len)))
-
-pub shape_of-table : goal.shape_of-table
-shape_of-table c = c.zero.auto.a ∙ c.loop-i.invariant.len
 
 pub returns : goal.returns
 returns c =

@@ -3,7 +3,6 @@ use mathlib.Core.Path.{sym, ◌∙◌}
 use native.Mathlib.Omega.{arith}
 use Rattle.ids.proofs.Records.{length_ids}
 use Rattle.ids.proofs.Search.{at_told}
-use Rattle.marks.proofs.Noting.{noted_as}
 use Rattle.marks.proofs.mark.Goals as goal
 
 -- a record that is found is a used one
@@ -11,10 +10,3 @@ pub bounds-marks-i : goal.bounds-marks-i
 bounds-marks-i c =
     let t = at_told _ _ _ (sym c.find.ensures ∙ c.in-Ok.is) in
     omega (arith, c.requires.used_in_bounds, t.within, length_ids c.args.size c.args.used c.args.table.now)
-
-pub returns-in-Ok : goal.returns-in-Ok
-returns-in-Ok c =
-    noted_as c.args.marks.now (sym c.find.ensures ∙ c.in-Ok.is)
-
-pub returns-in_default : goal.returns-in_default
-returns-in_default c = noted_as c.args.marks.now (sym c.find.ensures ∙ c.in_default.is)

@@ -10,15 +10,6 @@ loop-id-init c =
     rw (c.into_iter-id-iterator.ensures.into_iter_gives, c.chunks_exact-id-items.ensures.rest)
     (c.chunks_exact-id-items.ensures.size, marking_none _ _ _ _ _ c.requires.used_in_bounds.1)
 
-pub mark-requires : goal.mark-requires
-mark-requires c =
-    record {
-      le_size = c.requires.le_size;
-      table_value = c.requires.table_value;
-      id_len = c.in-Some.ensures.steps.1.1 ∙ c.loop-id.invariant.0;
-      used_in_bounds = omega (arith, c.requires.used_in_bounds.0, c.loop-id.invariant.1.long);
-    }
-
 pub loop-id-preserved : goal.loop-id-preserved
 loop-id-preserved c =
     let next = c.in-Some.ensures.steps in

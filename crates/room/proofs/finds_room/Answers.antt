@@ -1,8 +1,5 @@
 -- `room::finds_room` meets its contract. Assumes nothing.
-use mathlib.Core.Path.{ap₂}
-use Prim.Native.Nat.{ℕ}
 use native.Mathlib.Omega.{arith}
-use lib.Dec.{leb}
 use Rattle.rules.specs.Memory.{confirmed_capacity}
 use Rattle.table.proofs.Sound.{sound_told}
 use Rattle.room.proofs.Judging.{enough_places}
@@ -15,6 +12,3 @@ pub returns-then-used-room : goal.returns-then-used-room
 returns-then-used-room c =
     let fit = (sound_told _ _ _ _ c.requires.recent_value).fit in
     enough_places _ _ _ _ _ c.args.state.recent _ _ (confirmed_capacity c.args.recent.now) fit (omega (arith, c.capacity-room.ensures))
-
-pub returns : goal.returns
-returns c = ap₂ (λ (n m : ℕ). leb n m) c.needed.ensures c.capacity-room.ensures

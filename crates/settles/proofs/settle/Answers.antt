@@ -34,10 +34,6 @@ pub pending_at-requires : goal.pending_at-requires
 pending_at-requires c =
     (c.record_size-size.ensures.lower_bound, (c.requires.i_lt_used.0, within_bytes _ _ _ c.args.used _ c.record_size-size.ensures.value c.requires.i_lt_used.1))
 
-pub count-requires : goal.count-requires
-count-requires c =
-    (omega (arith, c.requires.i_bound.0, c.pending_at.ensures.bucket_value ∙ ap (λ (q : Pending). q.bucket) (read_of (goal.at.count-requires c).After-record_size-size)), c.requires.i_bound.1, c.requires.i_bound.2)
-
 -- it did not hold exactly h
 other : (n : Joined-renew) → n.renew.result ≡ Exactly → ⊥
 other n e = elim n.match-renew.branch [ in-Another w ↦ cc (w.in-Another.is) | in-Nothing w ↦ cc (w.in-Nothing.is) ]

@@ -36,9 +36,3 @@ loop-i-preserved c =
 pub returns : goal.returns
 returns c =
     passed_all (board_of c.args.on) (board_lawful c.args.on) c.args.h.0 (omega (arith, c.well_formed)) c.args.state _ _ c.requires.ready c.requires.pending_in_bounds c.loop-i.i _ _ c.loop-i.invariant (omega (arith, c.loop-i.invariant.within))
-
-pub bounds-marks-i : goal.bounds-marks-i
-bounds-marks-i c = mark_there (goal.at.bounds-marks-i c).In-loop-i
-
-pub bounds-marks-i-then-marks-i-eq1 : goal.bounds-marks-i-then-marks-i-eq1
-bounds-marks-i-then-marks-i-eq1 c = mark_there (goal.at.bounds-marks-i-then-marks-i-eq1 c).In-loop-i

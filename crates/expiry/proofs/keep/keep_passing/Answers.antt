@@ -13,13 +13,6 @@ use Rattle.expiry.proofs.keep.keep_passing.Goals.{then-not-test, else-not-test}
 past : (size used n : ℕ) → n ≤ used → n * size ≤ used * size
 past size used n h = mul-le-mul_right size h
 
-pub u32_le-requires : goal.u32_le-requires
-u32_le-requires g c = omega (arith, record_end c.args.size c.args.used c.loop-i.i (omega arith), c.loop-i.invariant.so_far.len, c.requires.1.0.0, c.requires.1.0.1)
-
-pub keep_run-k-requires : goal.keep_run-k-requires
-keep_run-k-requires g c =
-    (omega (arith, c.requires.1.0.0), (c.loop-i.invariant.so_far.k_le, (c.loop-i.invariant.from_le, omega (arith, past c.args.size c.args.used c.loop-i.i c.loop-i.invariant.i_le, c.loop-i.invariant.so_far.len, c.requires.1.0.1))))
-
 pub loop-i-preserved : goal.loop-i-preserved
 loop-i-preserved g c =
     let at : ℕ = c.loop-i.i * c.args.size in
@@ -36,15 +29,6 @@ loop-i-preserved g c =
           (running_on _ _ _ _ c.requires.1.0.1 c.loop-i.invariant (omega arith) (told ∙ w.if-not-test.false))
     ]
 
-pub keep_run-k-requires-2 : goal.keep_run-k-requires-2
-keep_run-k-requires-2 g c =
-    (omega (arith, c.requires.1.0.0), (c.loop-i.invariant.so_far.k_le, (omega (arith, c.loop-i.invariant.so_far.i_le), omega (arith, past c.args.size c.args.used c.loop-i.from c.loop-i.invariant.so_far.i_le, c.loop-i.invariant.so_far.len, c.requires.1.0.1))))
-
-pub zero-requires : goal.zero-requires
-zero-requires g c =
-    let few : c.keep_run-k-2.result ≤ c.args.used = omega (arith, c.keep_run-k-2.ensures.value, c.loop-i.invariant.so_far.k_le, c.loop-i.invariant.so_far.i_le) in
-    (past c.args.size c.args.used c.keep_run-k-2.result few, omega (arith, c.requires.1.0.1, c.keep_run-k-2.auto.table, c.loop-i.invariant.so_far.len))
-
 pub returns : goal.returns
 returns g c =
     let e : c.loop-i.i ≡ c.args.used = omega (arith, c.loop-i.invariant.i_le) in
@@ -52,8 +36,3 @@ returns g c =
 
 pub loop-i-init : goal.loop-i-init
 loop-i-init g c = running_none _ _ _ _
-
-pub overflow_mul-k : goal.overflow_mul-k
-overflow_mul-k g c =
-    let few : c.keep_run-k-2.result ≤ c.args.used = omega (arith, c.keep_run-k-2.ensures.value, c.loop-i.invariant.so_far.k_le, c.loop-i.invariant.so_far.i_le) in
-    omega (arith, past c.args.size c.args.used c.keep_run-k-2.result few, c.requires.1.0.1)

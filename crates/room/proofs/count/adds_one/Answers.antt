@@ -12,7 +12,7 @@ use Rattle.rules.proofs.Boards.{board_lawful}
 use Rattle.table.proofs.Sound.{sound_told, sound_room}
 use Rattle.room.specs.Room.{lasts_through}
 use Rattle.by_id.proofs.ById.{id_within, lent_id}
-use Rattle.room.proofs.Adding.{unmarked, expired, lasting}
+use Rattle.room.proofs.Adding.{expired, lasting}
 use Rattle.room.proofs.count.adds_one.Goals as goal
 use Rattle.room.proofs.count.adds_one.Goals.{After-record_size}
 
@@ -22,9 +22,6 @@ within n =
 
 still_lasts : (n : After-record_size) → true ≡ lasts_through (board_of n.args.on) n.args.skipped ((board_of n.args.on).table.read (get_or (records (board_of n.args.on).table.size n.args.used n.args.pending.now) n.args.i []))
 still_lasts n = sym (n.if-not-lasts.false) ∙ n.lasts.ensures
-
-pub returns-then-mark-ne1 : goal.returns-then-mark-ne1
-returns-then-mark-ne1 c = unmarked _ _ _ _ _ c.if-mark-ne1.true
 
 pub lasts-requires : goal.lasts-requires
 lasts-requires c = (c.requires.i_lt_used.0, sound_room _ _ _ _ (sound_told _ _ _ _ c.requires.i_lt_used.1))

@@ -2,16 +2,10 @@ use mathlib.Core.Path.{ap}
 use native.Mathlib.Omega.{arith}
 use Rattle.rules.specs.Lists.{bit}
 use Rattle.rules.specs.Board.{board_of}
-use Rattle.lists.proofs.Loop.{start, step, stop}
+use Rattle.lists.proofs.Loop.{step, stop}
 use Rattle.room.proofs.Counting.{new_next, new_end}
 use Rattle.room.proofs.count.count_new.Goals as goal
 use Rattle.room.proofs.count.count_new.Goals.{then-adds_one, else-adds_one}
-
-pub loop-i-init : goal.loop-i-init
-loop-i-init c = start _ _
-
-pub adds_one-requires : goal.adds_one-requires
-adds_one-requires c = record { i_lt_used = ((omega arith), c.requires.pending_value); recent_value = c.requires.recent_value }
 
 pub loop-i-preserved : goal.loop-i-preserved
 loop-i-preserved c =

@@ -4,19 +4,13 @@ use native.Mathlib.Omega.{arith}
 use lib.Dec.{leb}
 use borrow.Author.Tests.{le-leb, lt-leb}
 use Rattle.rules.specs.Lists.{bit}
-use Rattle.lists.proofs.Loop.{start, step, stop}
+use Rattle.lists.proofs.Loop.{step, stop}
 use Rattle.room.proofs.Counting.{all_high, high_next, high_end}
 use Rattle.room.proofs.count.count_staying.Goals as goal
 use Rattle.room.proofs.count.count_staying.Goals.{then-low-height_at, else-low-height_at}
 
 pub returns-then-low-eq0 : goal.returns-then-low-eq0
 returns-then-low-eq0 c = all_high c.args.least.0 _ _ c.if-low-eq0.true
-
-pub loop-i-init : goal.loop-i-init
-loop-i-init c = start _ _
-
-pub height_at-requires : goal.height_at-requires
-height_at-requires c = ((omega arith), c.requires)
 
 pub loop-i-preserved : goal.loop-i-preserved
 loop-i-preserved c =

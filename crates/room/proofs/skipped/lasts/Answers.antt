@@ -1,8 +1,8 @@
 -- `room::skipped::lasts` meets its contract. Assumes nothing.
-use mathlib.Core.Path.{◌≡◌, sym, ap, ap₂, subst, ◌∙◌}
+use mathlib.Core.Path.{◌≡◌, ap, ap₂, ◌∙◌}
 use mathlib.Core.List.{[]}
-use Prim.Native.Nat.{ℕ, ◌-◌, ◌*◌, ◌/◌, min, ◌≤◌}
-use lib.ListN.{length, get_or}
+use Prim.Native.Nat.{ℕ, ◌-◌, ◌/◌, min}
+use lib.ListN.{get_or}
 use Rattle.rules.specs.Counts.{columns}
 use Rattle.rules.specs.Records.{records}
 use Rattle.rules.specs.Board.{Pending, board_of, pending_of}
@@ -32,10 +32,6 @@ reach_is n =
 
 pub returns-in_default : goal.returns-in_default
 returns-in_default c = lasts_none _ _ _ c.in_default.is
-
-pub pending_at-r-requires : goal.pending_at-r-requires
-pending_at-r-requires c =
-    (c.record_size-size.ensures.lower_bound, (c.requires.0, subst (λ (n : ℕ). c.args.used * n ≤ length c.args.pending.now) (sym c.record_size-size.ensures.value) c.requires.1))
 
 pub returns : goal.returns
 returns c =
