@@ -13,6 +13,7 @@ pub use order::{compare, ids_rise, is_below};
 use std::cmp::Ordering;
 
 // Where `id` stands among the first `used` records (`Ok`), or where it belongs (`Err`). Where the first words of two ids differ they decide.
+// Searched by hand: records are runs of `size` bytes, so that there is no slice of them for the library to search.
 pub fn find(table: &[u8], size: usize, used: usize, id: &[u8]) -> Result<usize, usize>
     requires le_size { (32 ≤ size) × (used * size ≤ length table.now) }
     requires table_value { rising (map id_of (records size used table.now)) ≡ true }

@@ -1,4 +1,5 @@
 // Which records of a table are listed: a byte for each record, by its place. And the records whose mark is 0 stay.
+// Bytes and no enum: the definitions beside, noted and picked speak of the numbers 0, 1 and 2.
 #![tactic(auto)]
 
 ghost use Rattle.std.specs.Prelude.{◌≡◌, true, map, ◌++◌, ◌*◌, ◌≤◌, length, take, drop, replicate};
