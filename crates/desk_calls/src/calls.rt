@@ -138,14 +138,13 @@ pub fn block(
 {
     let height = height(line.a);
     numbered(
-        estimator::block_connected(
-            state, confirmed, resolved, pending, recent, ids, height, on,
-        ),
+        estimator::block_connected(state, confirmed, resolved, pending, recent, ids, height, on),
         state,
     )
 }
 
 // What a reading is answered with: an unknown version is told.
+#[tactic(auto, unfolding(crate::specs::Calls::carried))]
 fn reply_of(reading: Result<State, ReadError>) -> Reply
     ensures { result ≡ reply_of (read_answer reading) }
 {
@@ -170,8 +169,10 @@ pub fn read(
         ≡ read_does on state history.now (before confirmed resolved pending recent) }
 {
     let reading = estimator::from_history_bytes(history, confirmed, resolved, pending, recent, on);
+    let done = numbered(reading, state);
     Done {
+        fits: true,
         reply: reply_of(reading),
-        ..numbered(reading, state)
+        state: done.state,
     }
 }

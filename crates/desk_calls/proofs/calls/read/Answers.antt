@@ -1,6 +1,5 @@
 -- `calls::calls::read` meets its contract. Assumes nothing.
 use mathlib.Core.Path.{ap, ◌∙◌}
-use Rattle.kinds.specs.declared.State.{State}
 use Rattle.kinds.specs.Answers.{read_refusal}
 use Rattle.kinds.specs.Refusals.{read_refuses}
 use Rattle.rules.specs.Estimator.{fresh}
@@ -14,4 +13,4 @@ pub returns : goal.returns
 unfolding read_does
 returns c =
     begins reply_of _ _ _ _ _ _ _ c.from_history_bytes-reading.ensures
-    (ap (λ (d : Done). d.state) c.numbered.ensures ∙ kept_is read_refusal read_refuses _ (state_of fresh) _) c.reply_of.ensures
+    (ap (λ (d : Done). d.state) c.numbered-done.ensures ∙ kept_is read_refusal read_refuses c.from_history_bytes-reading.result (state_of fresh) c.args.state) c.reply_of.ensures
