@@ -1,5 +1,8 @@
-// THE PUBLIC CALLS, of either board: the base board, or the wide one, the slower horizon, whose columns are six blocks each. Each is what its definition in rules/specs/Calls or format/specs/Calls says, for every input; none asks anything of
-// its caller. The bodies are in `starts`, `entries`, `blocks`, `estimates` and `history`.
+// THE PUBLIC CALLS, of either board: the base board, or the wide one, the slower horizon, whose columns are six blocks each. Each is what its definition in
+// rules/specs/Calls or format/specs/Calls says, for every input; none asks anything of its caller. The bodies are in `starts`, `entries`, `blocks`, `estimates`
+// and `history`.
+// The four lent slices stay four parameters here and below. Tried as one struct of `&mut` slices: that a slice keeps its length, and that a byte is below 256, is
+// not known of slices in a struct, so that every contract would have to say it.
 #![tactic(auto)]
 
 ghost use Rattle.std.specs.Prelude.{◌≡◌};

@@ -1,6 +1,7 @@
 // The bodies of the exported calls, over the horizon: each judges the words that it is given, makes the call on the state that they hold, and tells its
 // outcome in words; the lookup, which is of no board, has numbers alone. Each is what its definition in boundary/specs/Calls says, for every input; none asks
 // anything of its caller. Words that hold no state, an id that is not 32 bytes and a `carried` of no words are Damaged, and nothing is changed.
+// Answers stay numbers here, 1 for Damaged, since C takes no enum; a slice stays by itself, since C lends each.
 #![tactic(auto)]
 
 ghost use Rattle.std.specs.Prelude.{◌≡◌, []};

@@ -1,6 +1,7 @@
 // THE C ABI: the public calls of either board for C and Rust, on numbers and slices only, a slice passing as a pointer and a length. Each answers document
 // 01's number, and puts what the answer carries, if anything, into `carried`. The state is four lent words (boundary/specs/Words). Each is what its definition
 // in boundary/specs/Calls says, for every input; none asks anything of its caller. The bodies are in `exports`.
+// The calls of the two boards differ in the board alone and stand in pairs, since C calls each by its name.
 #![tactic(auto)]
 
 ghost use Rattle.std.specs.Prelude.{◌≡◌, []};

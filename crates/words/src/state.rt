@@ -1,5 +1,5 @@
 // The state in four words: whether there is a last height (1 or 0), the height (0 where there is none), and how many pending and confirmed records are
-// used. Anything after the four words is neither read nor written.
+// used. Anything after the four words is neither read nor written. (A flag with a height beside it, and not an Option: the words are C's.)
 ghost use Rattle.std.specs.Prelude.{◌≡◌, true, ◌≤◌, ◌<◌, ◌^◌, length};
 ghost use Rattle.boundary.specs.Words.{holds_last, holds_state, last_in, state_in, flag_of, height_of, put_state};
 
