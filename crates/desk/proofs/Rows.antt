@@ -8,26 +8,32 @@ use Rattle.kinds.specs.declared.State.{State}
 use Rattle.rules.specs.Memory.{Lent}
 use Rattle.page.specs.declared.page.Operation.{Operation}
 use Rattle.lines.specs.declared.lines.Line.{Line}
+use Rattle.std.specs.Prelude.{Some}
+use Rattle.desk_calls.specs.declared.calls.Done.{Done}
 use Rattle.desk_lays.specs.Lays.{operation_lays}
-use Rattle.desk_calls.specs.Calls.{Did, block_does, read_does}
-use Rattle.desk.specs.Desk.{on_memory, operation_does}
+use Rattle.desk_calls.specs.Calls.{block_does, read_does}
+use Rattle.desk.specs.Desk.{Changed, changed, called, on_memory, operation_does}
+
+-- what is done, told apart from the lent memory
+pub put : (d e : Done) (l : Lent) → d ≡ e → changed (Some d) l ≡ changed (Some e) l
+put d e l p = ap (λ (x : Done). changed (Some x) l) p
 
 module _ (on : Horizon) (of : Operation) (line : Line) (s : State) (text : List ℕ) (l : Lent) where
   -- the row of an operation
-  pub by : (o : Operation) (d : Did Lent) → of ≡ o → d ≡ operation_does on o line s text l → d ≡ operation_does on of line s text l
+  pub by : (o : Operation) (d : Changed) → of ≡ o → d ≡ operation_does on o line s text l → d ≡ operation_does on of line s text l
   by o d e p = p ∙ sym (ap (λ (x : Operation). operation_does on x line s text l) e)
 
   -- the same, as a step
-  row : (o : Operation) (d : Did Lent) → operation_does on o line s text l ≡ d → of ≡ o → operation_does on of line s text l ≡ d
+  row : (o : Operation) (d : Changed) → operation_does on o line s text l ≡ d → of ≡ o → operation_does on of line s text l ≡ d
   row o d p e = sym (by o d e (sym p))
 
   -- `block` and `blockraw`
-  pub blocks : (of ≡ Operation.Block) ⊎ (of ≡ Operation.BlockRaw) → operation_does on of line s text l ≡ block_does on line s text l
+  pub blocks : (of ≡ Operation.Block) ⊎ (of ≡ Operation.BlockRaw) → operation_does on of line s text l ≡ called (block_does on line s text l)
   unfolding operation_does
   blocks h = ⊎_elim (row Operation.Block _ refl) (row Operation.BlockRaw _ refl) h
 
   -- `read` and `again`
-  pub reads : (of ≡ Operation.Read) ⊎ (of ≡ Operation.Again) → operation_does on of line s text l ≡ read_does on s text l
+  pub reads : (of ≡ Operation.Read) ⊎ (of ≡ Operation.Again) → operation_does on of line s text l ≡ called (read_does on s text l)
   unfolding operation_does
   reads h = ⊎_elim (row Operation.Read _ refl) (row Operation.Again _ refl) h
 

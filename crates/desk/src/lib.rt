@@ -5,8 +5,7 @@
 
 ghost use Rattle.std.specs.Prelude.{◌≡◌};
 ghost use Rattle.rules.specs.Slices.{before, after};
-ghost use Rattle.desk_calls.specs.Calls.{did};
-ghost use Rattle.desk.specs.Desk.{silent, line_does};
+ghost use Rattle.desk.specs.Desk.{changed, silent, line_does};
 
 use desk_calls::{Done, Reply, block, enter, leave, read, start, state_in};
 use desk_lays::lay;
@@ -14,18 +13,17 @@ use kinds::{Horizon, State};
 use lines::Line;
 use page::Operation;
 
-// A line without an answer.
-fn silent(fits: bool, state: State) -> Done
-    ensures { result ≡ silent fits state }
+// What a line without an answer has done.
+fn silent(state: State) -> Done
+    ensures { result ≡ silent state }
 {
     Done {
-        fits,
         reply: Reply::Silent,
         state,
     }
 }
 
-// What a line with these bytes does to a board's lent memory and state. A line that only asks does nothing here; one that does not fit is told as such.
+// What a line with these bytes does to a board's lent memory and state, if it fits. A line that only asks does nothing here.
 pub fn change(
     line: Option<Line>,
     state: State,
@@ -35,15 +33,13 @@ pub fn change(
     confirmed: &mut [f64],
     resolved: &mut [f64],
     on: Horizon,
-) -> Done
-    ensures { did result (after confirmed resolved pending recent)
+) -> Option<Done>
+    ensures { changed result (after confirmed resolved pending recent)
         ≡ line_does on line state text.now (before confirmed resolved pending recent) }
 {
-    let Some(line) = line else {
-        return silent(false, state);
-    };
-    match line.operation {
-        Operation::State => silent(true, state_in(line)),
+    let line = line?;
+    let done = match line.operation {
+        Operation::State => silent(state_in(line)),
         Operation::Start => start(state, pending, recent, confirmed, resolved, on),
         Operation::Enter => enter(line, state, text, pending, on),
         Operation::Leave => leave(state, text, pending, on),
@@ -53,6 +49,9 @@ pub fn change(
         Operation::Read | Operation::Again => {
             read(state, text, pending, recent, confirmed, resolved, on)
         }
-        _ => silent(lay(line, text, pending, recent, confirmed, resolved), state),
-    }
+        _ => {
+            return lay(line, text, pending, recent, confirmed, resolved).then_some(silent(state));
+        }
+    };
+    Some(done)
 }

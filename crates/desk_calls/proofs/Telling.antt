@@ -1,6 +1,5 @@
 -- What is said of a call, from its outcome. Assumes nothing.
 use mathlib.Core.Path.{◌≡◌, refl, sym, ap, ap₂, ◌∙◌}
-use mathlib.Core.Bool.{true}
 use Prim.Native.Nat.{◌<◌}
 use Rattle.kinds.specs.declared.State.{State}
 use Rattle.kinds.specs.Answers.{Answer, answer_of, state_or}
@@ -30,6 +29,6 @@ kept_is refusal refuses (Err e) s before = let h : 0 < (refusal e).number = refu
 
 -- a start and a reading, whose reply is f of the answer
 pub begins : (f : Answer → Reply) (before : State) (a : Answer) (s : State) (l : Lent) (o : Outcome Lent) (t : State) (r : Reply) → outcome a s l ≡ o
-    → t ≡ kept a.number s before → r ≡ f a → did (done true r t) l ≡ begun before (f o.answer) o
+    → t ≡ kept a.number s before → r ≡ f a → did (done r t) l ≡ begun before (f o.answer) o
 unfolding begun
-begins f before a s l o t r e q i = ap₂ (λ (x : Reply) (u : State). did (done true x u) l) i q ∙ ap (λ (x : Outcome Lent). begun before (f x.answer) x) e
+begins f before a s l o t r e q i = ap₂ (λ (x : Reply) (u : State). did (done x u) l) i q ∙ ap (λ (x : Outcome Lent). begun before (f x.answer) x) e

@@ -1,5 +1,5 @@
 -- The state that a line of a script names, and what the estimator's calls do for it. Assumes nothing.
-use Rattle.std.specs.Prelude.{ℕ, ◌-◌, ◌%◌, Bool, true, cond, List, [], ◌∷◌, ◌++◌, eqb, leb, length, drop, replicate, None, Some}
+use Rattle.std.specs.Prelude.{ℕ, ◌-◌, ◌%◌, cond, List, [], ◌∷◌, ◌++◌, eqb, leb, length, drop, replicate, None, Some}
 use Rattle.kinds.specs.declared.Height.{Height}
 use Rattle.kinds.specs.declared.Horizon.{Horizon}
 use Rattle.kinds.specs.Last.{Last}
@@ -24,13 +24,13 @@ pub record Did (L : Type 0) : Type 0 where
 abbrev pub did : {L : Type 0} → Done → L → Did L
 did d l = record { done = d; lent = l }
 
--- the three
-abbrev pub done : Bool → Reply → State → Done
-done fits reply s = record { fits = fits; reply = reply; state = s }
+-- what is done
+abbrev pub done : Reply → State → Done
+done reply s = record { reply = reply; state = s }
 
 -- a number for an answer
 abbrev pub numbered : ℕ → State → Done
-numbered n s = done true (Reply.Number n) s
+numbered n s = done (Reply.Number n) s
 
 -- ---- what the fields say
 
@@ -78,7 +78,7 @@ kept n after before = cond (eqb n 0) after before
 
 -- a start or a reading with this reply
 unfoldable pub begun : State → Reply → Outcome Lent → Did Lent
-begun s reply o = did (done true reply (kept o.answer.number o.state s)) o.lent
+begun s reply o = did (done reply (kept o.answer.number o.state s)) o.lent
 
 -- `start`
 unfoldable pub start_does : Horizon → State → Lent → Did Lent

@@ -16,10 +16,9 @@ pub enum Reply {
     Carrying(u32, u64),
 }
 
-// What a line has done: whether it fits the lent memory, what it is answered with, and the state after it.
+// What a line has done that fits the lent memory: what it is answered with, and the state after it.
 #[derive(Clone, Copy)]
 pub struct Done {
-    pub fits: bool,
     pub reply: Reply,
     pub state: State,
 }
@@ -71,12 +70,10 @@ fn numbered<E: Refusal>(answered: Result<State, E>, before: State) -> Done
 {
     match answered {
         Ok(state) => Done {
-            fits: true,
             reply: Reply::Number(0),
             state,
         },
         Err(refusal) => Done {
-            fits: true,
             reply: Reply::Number(refusal.number()),
             state: before,
         },
@@ -171,7 +168,6 @@ pub fn read(
     let reading = estimator::from_history_bytes(history, confirmed, resolved, pending, recent, on);
     let done = numbered(reading, state);
     Done {
-        fits: true,
         reply: reply_of(reading),
         state: done.state,
     }

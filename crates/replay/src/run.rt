@@ -23,8 +23,6 @@ struct Loan {
 // What a run keeps between two lines.
 #[derive(Clone, Copy)]
 struct Progress {
-    // Every line so far fits.
-    fits: bool,
     // The board that the lines are for, what it has, and what the other one has.
     on: Horizon,
     own: Option<Loan>,
@@ -33,10 +31,9 @@ struct Progress {
     kept: usize,
 }
 
-// What a line leaves: whether it fits, its board's state, and how many bytes are kept.
+// What a line that fits leaves: its board's state, and how many bytes are kept.
 #[derive(Clone, Copy)]
 struct Left {
-    fits: bool,
     state: State,
     kept: usize,
 }
@@ -55,7 +52,6 @@ fn nothing() -> Loan {
 // The beginning: the narrow board, and nothing is lent to either.
 fn fresh() -> Progress {
     Progress {
-        fits: true,
         on: Horizon::Base,
         own: None,
         other: None,
@@ -95,7 +91,6 @@ fn lent(line: Line) -> Loan {
 fn after(r: Progress, line: Option<Line>, left: Left) -> Progress {
     let state = left.state;
     let r = Progress {
-        fits: left.fits,
         own: r.own.map(|loan| Loan { state, ..loan }),
         kept: left.kept,
         ..r
@@ -113,7 +108,7 @@ fn after(r: Progress, line: Option<Line>, left: Left) -> Progress {
     }
 }
 
-// One line, over what its board is lent, where n bytes are kept. What it changes is done first, then what it asks for is told.
+// One line, over what its board is lent, where n bytes are kept: what it leaves, if it fits. What it changes is done first, then what it asks for is told.
 fn act(
     out: &impl Print,
     line: Option<Line>,
@@ -127,10 +122,12 @@ fn act(
     kept: &mut [u8],
     n: usize,
     on: Horizon,
-) -> io::Result<Left> {
+) -> io::Result<Option<Left>> {
     let m = gather(line, text, front(kept, n), buffer);
     let bytes = front(buffer, m);
-    let done = change(line, state, bytes, pending, recent, confirmed, resolved, on);
+    let Some(done) = change(line, state, bytes, pending, recent, confirmed, resolved, on) else {
+        return Ok(None);
+    };
     let held = Held {
         state,
         pending,
@@ -141,11 +138,10 @@ fn act(
     };
     let kept = ask(out, line, held, buffer, kept, n)?;
     say_reply(out, done.reply)?;
-    Ok(Left {
-        fits: done.fits,
+    Ok(Some(Left {
         state: done.state,
         kept,
-    })
+    }))
 }
 
 // The same, of as much memory as the board is lent.
@@ -162,7 +158,7 @@ fn turn(
     kept: &mut [u8],
     n: usize,
     on: Horizon,
-) -> io::Result<Left> {
+) -> io::Result<Option<Left>> {
     let p0 = begins(MOST_PENDING, pending.len(), on);
     let p1 = ends(p0, own.pending, pending.len());
     let q0 = begins(MOST_RECENT, recent.len(), on);
@@ -205,13 +201,13 @@ pub(crate) fn run(
         let text = ended.unwrap_or(piece);
         let line = asked(text, ended.is_some(), r.own.is_some(), r.on);
         let own = r.own.unwrap_or(nothing());
-        let left = turn(
+        let Some(left) = turn(
             out, line, own, text, pending, recent, confirmed, resolved, buffer, kept, r.kept, r.on,
-        )?;
-        r = after(r, line, left);
-        if !r.fits {
+        )?
+        else {
             return println!(out; "bad line {}", k + 1);
-        }
+        };
+        r = after(r, line, left);
     }
     Ok(())
 }
