@@ -11,7 +11,7 @@ use ids::find;
 use kinds::Horizon;
 use table::remove;
 
-// The pending record of the id goes, if there is one. The answer is how many are left.
+// The pending record of the id goes, if there is one. The answer is how many are left, which is what the caller goes on with also where there is none.
 pub fn forget(pending: &mut [u8], used: usize, id: &[u8], on: Horizon) -> usize
     requires pending_value { sound_table (board_of on).table.size pending_most used pending.old ≡ true }
     requires id_len { length id.now ≡ 32 }

@@ -1,6 +1,7 @@
 // THE PUBLIC CALLS, of either board: the base board, or the wide one, the slower horizon, whose columns are six blocks each. Each is what its definition in
 // rules/specs/Calls or format/specs/Calls says, for every input; none asks anything of its caller. The bodies are in `starts`, `entries`, `blocks`, `estimates`
 // and `history`.
+// (Functions and not `pub use` of the bodies: here a reader finds all contracts, and `told` takes them from here.)
 // The four lent slices stay four parameters here and below. Tried as one struct of `&mut` slices: that a slice keeps its length, and that a byte is below 256, is
 // not known of slices in a struct, so that every contract would have to say it.
 #![tactic(auto)]

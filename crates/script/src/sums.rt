@@ -6,7 +6,7 @@ ghost use Rattle.script.specs.Sums.{adler32, doubles};
 
 use std::marker::Model;
 
-// The bits of infinity, of the sign, and of the NaN.
+// The bits of infinity, of the sign, and of the NaN. (codec::rows has the first two as well: scripts rest on nothing of the file.)
 const INFINITY_BITS: u64 = 9218868437227405312;
 
 const SIGN_BIT: u64 = 9223372036854775808;

@@ -7,6 +7,6 @@ pub fn id_in(id: &[u8]) -> [u8; 32]
     ensures { result ≡ id.now }
 {
     let mut given = [0u8; 32];
-    mem::put_bytes(&mut given, 0, id);
+    given.copy_from_slice(id);
     given
 }
