@@ -55,8 +55,8 @@ fn count(confirmed: &mut [f64], resolved: &mut [f64], r: PendingEntry, h: Height
     counts::count_confirmation(confirmed, resolved, r.bucket as usize, r.through, first);
 }
 
-// Pending record number `i` is settled at h: it is counted, unless its confirmed record holds exactly h. The answer is 1 if it has no confirmed record, 2 if it
-// has one.
+// Pending record number `i` is settled at h: it is counted, unless its confirmed record holds exactly h. The answer is the mark that it
+// then has, 1 if it has no confirmed record and 2 if it has one: a number, as the definitions `Settled` and `picked` have it.
 fn settle(
     confirmed: &mut [f64],
     resolved: &mut [f64],
