@@ -2,3 +2,5 @@
 
 -- two records change places
 pub mod Swapped
+-- records become others
+pub mod Become
