@@ -2,7 +2,7 @@
 // than the longest file, by which a longer one is known.
 #![tactic(auto)]
 
-ghost use Rattle.std.specs.Prelude.{◌<◌, ◌≡◌, length, take};
+ghost use Rattle.std.specs.Prelude.{◌<◌, ◌≡◌, None, length, take};
 ghost use Rattle.io.specs.Counts.{IsPrefixLen};
 ghost use Rattle.kinds.specs.declared.Horizon.{Horizon};
 ghost use Rattle.print.specs.Page.{page};
@@ -14,6 +14,62 @@ use kinds::{CONFIRMED_SIZE, Height, Horizon, PENDING_SIZE};
 use report::{PAGE, named_by, report};
 use std::io;
 use std::io::{Print, Read};
+
+// How a program reads a file: at most `longest` bytes, with so much room for its records, and as that board's file; where there is none, as that of the board that the
+// file names.
+#[derive(Clone, Copy)]
+struct View<const FILE: usize, const PENDING: usize, const RECENT: usize> {
+    longest: usize,
+    on: Option<Horizon>,
+}
+
+impl<const FILE: usize, const PENDING: usize, const RECENT: usize> View<FILE, PENDING, RECENT> {
+    ghost use Rattle.std.specs.Prelude.{◌≡◌, ◌/◌, ◌<◌, take};
+    ghost use Rattle.std.specs.Option.{unwrap_or};
+    ghost use Rattle.io.specs.Counts.{IsPrefixLen};
+    ghost use Rattle.rules.specs.Board.{pending_size, confirmed_size};
+    ghost use Rattle.print.specs.Page.{page};
+    ghost use Rattle.report.specs.Shown.{reach, named_by, shown, printed};
+
+    // What is printed of the first n bytes of a buffer that a longer file would fill; the answer is how many bytes that is.
+    fn text(
+        self,
+        file: &[u8; FILE],
+        n: usize,
+        chain: Option<Height>,
+        pending: &mut [u8; PENDING],
+        recent: &mut [u8; RECENT],
+        out: &mut [u8; PAGE],
+    ) -> usize
+        ensures prefix_len { IsPrefixLen result out.new }
+        ensures result_after { page out.new result
+            ≡ printed
+            (shown (reach (PENDING / pending_size) (RECENT / confirmed_size) self.entry.longest) chain (unwrap_or self.entry.on (named_by (take n file.now))) (take n file.now))
+            out.old }
+    {
+        let part = take(file, n);
+        let on = self.on.unwrap_or(named_by(part));
+        report(part, self.longest, chain, pending, recent, out, on)
+    }
+
+    // Reads a file, and writes what is printed of it; whether all was written. (No contract can say what is read or written.)
+    fn tell(
+        self,
+        input: &mut impl Read,
+        output: &impl Print,
+        chain: Option<Height>,
+    ) -> io::Result<bool>
+        requires { (FILE < 9223372036854775808) × (PENDING < 9223372036854775808) × (RECENT < 9223372036854775808) }
+    {
+        let mut file = zeros::<FILE>();
+        let n = read_full(input, &mut file)?;
+        let mut pending = zeros::<PENDING>();
+        let mut recent = zeros::<RECENT>();
+        let mut out = [0u8; PAGE];
+        let k = self.text(&file, n, chain, &mut pending, &mut recent, &mut out);
+        Ok(output.write_all(&out[..k]).is_ok())
+    }
+}
 
 // ---- show
 
@@ -27,6 +83,12 @@ const SHOW_RECENT: usize = 210 * CONFIRMED_SIZE;
 // The bytes that are read at most.
 const SHOW_BUFFER: usize = SHOW_LONGEST + 1;
 
+// How `show` reads a file: as the base board's.
+const SHOW: View<SHOW_BUFFER, SHOW_PENDING, SHOW_RECENT> = View {
+    longest: SHOW_LONGEST,
+    on: Some(Horizon::Base),
+};
+
 // What `show` prints of the first n bytes of a buffer that a longer file would fill; the answer is how many bytes that is.
 pub fn show_text(
     file: &[u8; SHOW_BUFFER],
@@ -39,26 +101,12 @@ pub fn show_text(
     ensures longest_in_bounds { of_show.longest < length file.now }
     ensures result_after { page out.new result ≡ printed (shown of_show None Horizon.Base (take n file.now)) out.old }
 {
-    report(
-        take(file, n),
-        SHOW_LONGEST,
-        None,
-        pending,
-        recent,
-        out,
-        Horizon::Base,
-    )
+    SHOW.text(file, n, None, pending, recent, out)
 }
 
-// Reads a history, and writes what `show` prints of it; whether all was written. (No contract can say what is read or written.)
+// Reads a history, and writes what `show` prints of it; whether all was written.
 pub fn show(input: &mut impl Read, output: &impl Print) -> io::Result<bool> {
-    let mut file = zeros::<SHOW_BUFFER>();
-    let n = read_full(input, &mut file)?;
-    let mut pending = zeros::<SHOW_PENDING>();
-    let mut recent = zeros::<SHOW_RECENT>();
-    let mut out = [0u8; PAGE];
-    let k = show_text(&file, n, &mut pending, &mut recent, &mut out);
-    Ok(output.write_all(&out[..k]).is_ok())
+    SHOW.tell(input, output, None)
 }
 
 // ---- inspect
@@ -72,6 +120,12 @@ const INSPECT_RECENT: usize = 75000 * CONFIRMED_SIZE;
 
 // The bytes that are read at most.
 const INSPECT_BUFFER: usize = INSPECT_LONGEST + 1;
+
+// How `inspect` reads a file: as that of the board that it names.
+const INSPECT: View<INSPECT_BUFFER, INSPECT_PENDING, INSPECT_RECENT> = View {
+    longest: INSPECT_LONGEST,
+    on: None,
+};
 
 // What `inspect` prints of the first n bytes of a buffer that a longer file would fill; the answer is how many bytes that is.
 pub fn inspect_text(
@@ -87,9 +141,7 @@ pub fn inspect_text(
     ensures result_after { page out.new result
         ≡ printed (shown of_inspect chain (named_by (take n file.now)) (take n file.now)) out.old }
 {
-    let part = take(file, n);
-    let on = named_by(part);
-    report(part, INSPECT_LONGEST, chain, pending, recent, out, on)
+    INSPECT.text(file, n, chain, pending, recent, out)
 }
 
 // Reads a history, and writes what `inspect` prints of it beside a chain; whether all was written.
@@ -98,11 +150,5 @@ pub fn inspect(
     output: &impl Print,
     chain: Option<Height>,
 ) -> io::Result<bool> {
-    let mut file = zeros::<INSPECT_BUFFER>();
-    let n = read_full(input, &mut file)?;
-    let mut pending = zeros::<INSPECT_PENDING>();
-    let mut recent = zeros::<INSPECT_RECENT>();
-    let mut out = [0u8; PAGE];
-    let k = inspect_text(&file, n, chain, &mut pending, &mut recent, &mut out);
-    Ok(output.write_all(&out[..k]).is_ok())
+    INSPECT.tell(input, output, chain)
 }
