@@ -1,21 +1,12 @@
 -- The rows of the page on lent memory itself. Assumes nothing.
-use mathlib.Core.Path.{◌≡◌, refl, sym, ap, ◌∙◌}
-use mathlib.Core.Bool.{Bool, true}
+use mathlib.Core.Path.{◌≡◌, refl}
+use mathlib.Core.Bool.{true}
 use mathlib.Core.List.{List}
 use Prim.Native.Nat.{ℕ}
 use Rattle.rules.specs.Memory.{Lent}
 use Rattle.page.specs.declared.page.Operation.{Operation}
 use Rattle.lines.specs.declared.lines.Line.{Line}
-use Rattle.desk_lays.specs.Lays.{Laid, laid, Lain, lain, operation_lays}
-
--- what was laid into two lists of what is lent, which the rest makes whole
-pub whole : {A : Type 0} (all : A → A → Lent) (t : Laid A) (r : Bool) (x y : A) → laid r x y ≡ t → lain r (all x y) ≡ lain t.fits (all t.first t.second)
-whole {A} all t r x y e = ap (λ (u : Laid A). lain u.fits (all u.first u.second)) e
-
-module _ (of : Operation) (line : Line) (text : List ℕ) (l : Lent) where
-  -- the row of an operation
-  pub by : (o : Operation) (d : Lain) → of ≡ o → d ≡ operation_lays o line text l → d ≡ operation_lays of line text l
-  by o d e p = p ∙ sym (ap (λ (x : Operation). operation_lays x line text l) e)
+use Rattle.desk_lays.specs.Lays.{lain, operation_lays}
 
 -- the lines that leave it
 pub others : (of : Operation) (line : Line) (text : List ℕ) (l : Lent) → (of ≡ Operation.Lend → ⊥) → (of ≡ Operation.Byte → ⊥) → (of ≡ Operation.Count → ⊥) → operation_lays of line text l ≡ lain true l

@@ -10,6 +10,7 @@ use print::put;
 use script::sums::double_of;
 
 // lend: what was lent becomes zero.
+#[tactic(auto, unfolding(crate::specs::Lays::cleared))]
 fn clear(pending: &mut [u8], recent: &mut [u8], confirmed: &mut [f64], resolved: &mut [f64])
     ensures { after confirmed resolved pending recent ≡ cleared (before confirmed resolved pending recent) }
 {
@@ -39,6 +40,7 @@ fn put_bytes(table: &mut [u8], at: usize, text: &[u8]) -> bool
 }
 
 // The count at `at` becomes the double of these bits, if there is such a place: whether there is.
+#[tactic(auto, unfolding(crate::specs::Lays::with_count))]
 fn put_count(counts: &mut [f64], at: usize, bits: u64) -> bool
     ensures { (result ≡ has_place at counts.old) × (counts.new ≡ with_count at bits counts.old) }
 {
@@ -50,6 +52,7 @@ fn put_count(counts: &mut [f64], at: usize, bits: u64) -> bool
 }
 
 // byte: the table that the line names gets the bytes, if they fit it.
+#[tactic(auto, using(crate::proofs::Laying::in_first, crate::proofs::Laying::in_second), unfolding(crate::specs::Lays::byte_lays))]
 fn lay_bytes(line: Line, text: &[u8], pending: &mut [u8], recent: &mut [u8]) -> bool
     ensures { laid result pending.new recent.new
         ≡ byte_lays line text.now pending.old recent.old }
@@ -62,6 +65,7 @@ fn lay_bytes(line: Line, text: &[u8], pending: &mut [u8], recent: &mut [u8]) -> 
 }
 
 // count: one count of the kind that the line names becomes another, if there is such a place.
+#[tactic(auto, using(crate::proofs::Laying::in_first, crate::proofs::Laying::in_second), unfolding(crate::specs::Lays::count_lays))]
 fn lay_count(line: Line, confirmed: &mut [f64], resolved: &mut [f64]) -> bool
     ensures { laid result confirmed.new resolved.new
         ≡ count_lays line confirmed.old resolved.old }
@@ -74,6 +78,7 @@ fn lay_count(line: Line, confirmed: &mut [f64], resolved: &mut [f64]) -> bool
 }
 
 // The lines that work on lent memory itself: whether they fit it. Any other line fits, and leaves it as it is.
+#[tactic(auto, using(crate::proofs::Rows::others), unfolding(crate::specs::Lays::operation_lays))]
 pub fn lay(
     line: Line,
     text: &[u8],

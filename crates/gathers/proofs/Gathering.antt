@@ -7,14 +7,14 @@ use Prim.Native.Nat.{ℕ, zero, suc, ◌+◌, ◌-◌, ◌/◌, ◌≤◌, ◌<�
 use native.Mathlib.Omega.{arith}
 use borrow.Author.Tests.{lt-ltb, le-ltb}
 use lib.ListN.{length, replicate}
-use Rattle.print.specs.Page.{Page, page, write}
-use Rattle.std.specs.Prelude.{Option, Some, None}
+use Rattle.print.specs.Page.{Page, write}
+use Rattle.std.specs.Prelude.{Some, None}
 use Rattle.std.specs.Option.{unwrap_or}
 use Rattle.std.specs.declared.ops.Range.{Range}
 use Rattle.script.specs.Words.{word_from}
-use Rattle.script.specs.Hex.{filled, hex_bytes, hex_into, is_id, id_bytes, id_of}
+use Rattle.script.specs.Hex.{hex_bytes, is_id, id_bytes, id_of}
 use Rattle.lines.specs.Lines.{text_of}
-use Rattle.gathers.specs.Gathers.{decoded, listed}
+use Rattle.gathers.specs.Gathers.{listed}
 
 -- an id, or zeros for a word that says none
 pub id_or_zeros : (w : List ℕ) → unwrap_or (id_of w) (replicate 32 0) ≡ id_bytes w
@@ -29,12 +29,6 @@ id_or_zeros w = go (is_id w)
     go false = refl
 
 module _ (text : List ℕ) (at : ℕ) where
-  -- what the word there says is what is decoded
-  pub said : (buffer bytes : List ℕ) (w : Range ℕ) (r : Option ℕ) → w ≡ word_from text at → filled r bytes ≡ hex_into (text_of text w) buffer
-      → page bytes (unwrap_or r 0) ≡ decoded text at buffer
-  unfolding decoded
-  said buffer bytes w r e h = rw (← e, ← h)
-
   module _ (p : Page) where
     -- no word is left
     pub all_listed : (n : ℕ) → length text < at → listed n text at p ≡ p

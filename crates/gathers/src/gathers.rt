@@ -25,6 +25,7 @@ enum Source {
 }
 
 // Puts the bytes that the word at `at` says: how many. Of `-`, of any word that is not digits, and of one that has no room, there are none.
+#[tactic(auto, unfolding(crate::specs::Gathers::decoded))]
 fn decode(text: &[u8], at: usize, buffer: &mut [u8]) -> usize
     ensures { page buffer.new result ≡ decoded text.now at buffer.old }
 {
@@ -33,6 +34,7 @@ fn decode(text: &[u8], at: usize, buffer: &mut [u8]) -> usize
 }
 
 // Puts the ids from `at` on, one after the other: how many bytes. An id that has no room is not put, and a word that says none is put as zeros.
+#[tactic(auto, using(crate::proofs::Gathering::all_listed, crate::proofs::Gathering::id_or_zeros, crate::proofs::Gathering::next_listed))]
 fn list_ids(text: &[u8], at: usize, buffer: &mut [u8]) -> usize
     ensures { page buffer.new result ≡ listed most_ids text.now at (page buffer.old 0) }
 {

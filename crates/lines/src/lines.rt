@@ -30,6 +30,7 @@ struct Taken {
 }
 
 // A last height plus 1, or 0 for `-`.
+#[tactic(auto, using(script::proofs::Reading::at_most), unfolding(crate::specs::Lines::last_of))]
 fn last_in(word: &[u8]) -> Option<u64>
     ensures { result ≡ last_of word.now }
 {
@@ -98,6 +99,7 @@ fn value_of(word: &[u8], field: Field, from: usize) -> Option<u64>
 }
 
 // Whether all words from `at` on are ids, and no more than a block may list.
+#[tactic(auto, using(crate::proofs::Listed::ended, crate::proofs::Listed::next_id, crate::proofs::Listed::no_id))]
 fn ids_fit(line: &[u8], at: usize) -> bool
     ensures { result ≡ ids_from most_ids line.now at }
 {
@@ -116,6 +118,7 @@ fn ids_fit(line: &[u8], at: usize) -> bool
 }
 
 // Takes what this field says from `at` on, if it fits.
+#[tactic(auto, unfolding(crate::specs::Lines::take_field, crate::specs::Lines::take_ids))]
 fn take(line: &[u8], at: usize, field: Field) -> Option<Taken>
     ensures { result ≡ take_field line.now at field }
 {
@@ -139,6 +142,7 @@ fn take(line: &[u8], at: usize, field: Field) -> Option<Taken>
 }
 
 // The operation of a line with its fields from `at` on, if they fit and no word follows.
+#[tactic(auto, unfolding(crate::specs::Lines::with_fields))]
 fn with_fields(line: &[u8], operation: Operation, at: usize, on: Horizon) -> Option<Line>
     ensures { result ≡ with_fields on line.now operation at }
 {

@@ -2,19 +2,9 @@
 -- Assumes nothing.
 use mathlib.Core.Path.{ap, sym, ◌∙◌}
 use Prim.Native.Nat.{◌+◌}
-use Rattle.lines.specs.Lines.{taken, take_ids, take_field}
+use Rattle.lines.specs.Lines.{taken}
 use Rattle.lines.proofs.Taking.{by_word}
 use Rattle.lines.proofs.lines.take.Goals as goal
-
-pub returns-in_err-value-in-Ids : goal.returns-in_err-value-in-Ids
-unfolding take_field take_ids
-returns-in_err-value-in-Ids c =
-    rw (c.in-Ids.is, sym c.ids_fit.ensures, sym c.then_some.ensures ∙ c.in_err-value-in-Ids.was) c.from_residual.ensures
-
-pub returns-in_ok-value-in-Ids : goal.returns-in_ok-value-in-Ids
-unfolding take_field take_ids
-returns-in_ok-value-in-Ids c =
-    rw (c.in-Ids.is, sym c.ids_fit.ensures, sym c.then_some.ensures ∙ c.in_ok-value-in-Ids.was)
 
 pub returns-in_err-value-in_default : goal.returns-in_err-value-in_default
 returns-in_err-value-in_default c =
@@ -26,7 +16,3 @@ pub returns-in_ok-value-in_default : goal.returns-in_ok-value-in_default
 returns-in_ok-value-in_default c =
     ap (taken (c.word_at-word.result.end + 1)) (sym c.in_ok-value-in_default.was)
     ∙ by_word c.args.line.now c.args.at c.args.field c.word_at-word.result c.value_of.result c.in_default.not-Nothing c.in_default.not-Ids c.word_at-word.ensures.value c.value_of.ensures
-
-pub returns-in-Nothing : goal.returns-in-Nothing
-unfolding take_field
-returns-in-Nothing c = rw c.in-Nothing.is
