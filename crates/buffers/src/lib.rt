@@ -15,7 +15,7 @@ pub fn zeros<const N: usize>() -> [u8; N]
     [0u8; N]
 }
 
-// Reads until the buffer is full or the input ends; how many bytes were read.
+// Reads until the buffer is full or the input ends; how many bytes were read. (The `while` ends with the input: each read says how far n goes, so no range is counted.)
 pub fn read_full(input: &mut impl Read, buf: &mut [u8]) -> io::Result<usize>
     ensures { ReadsAtMost result buf.new }
 {

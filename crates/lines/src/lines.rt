@@ -12,7 +12,7 @@ use script::sums::NAN_BITS;
 use script::words::word_at;
 
 // A line: its operation, and the values of its fields in their order. The value of bytes in digits, and of ids, is where they begin; of a last height
-// one more than it, and 0 for `-`; of one of two words 0 or 1, in the order of the page.
+// one more than it, and 0 for `-`; of one of two words 0 or 1, in the order of the page. (Numbers, since the definitions of what a line does read them.)
 #[derive(Clone, Copy)]
 pub struct Line {
     pub operation: Operation,

@@ -59,11 +59,12 @@ pub enum Field {
     Ids,
 }
 
-// The fields of an operation, in the order of the line.
+// The fields of an operation, in the order of the line. (Four parts, as the definitions have them: an array would be a list there,
+// of any length.)
 #[derive(Clone, Copy)]
 pub struct Fields(pub Field, pub Field, pub Field, pub Field);
 
-// Whether the word is this text.
+// Whether the word is this text. (It ties `==` of slices to the page's `same`, which all that is said of words is said by.)
 pub fn is(word: &[u8], text: &[u8]) -> bool
     ensures { result ≡ same word.now text.now }
 {

@@ -69,6 +69,7 @@ impl<'a> Cursor<'a> {
 }
 
 // Puts the decimal digits of n at the end of text, and answers where they begin.
+// (The `while` ends with the digits: how many there are is not known before.)
 fn digits_into(n: u64, text: &mut [u8; 20]) -> usize
     ensures in_bounds { result ≤ length text.new }
     ensures value { drop result text.new ≡ decimal n }

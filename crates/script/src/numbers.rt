@@ -2,7 +2,7 @@
 ghost use Rattle.std.specs.Prelude.{◌≡◌, ◌≤◌, ◌<◌};
 ghost use Rattle.script.specs.Digits.{digit_of, number_of};
 
-// The value of a digit; a capital letter is none.
+// The value of a digit; a capital letter is none, which std's `to_digit` takes too.
 #[tactic(auto, unfolding(crate::specs::Digits::digit))]
 pub(crate) fn digit(x: u8) -> Option<u8>
     ensures { result ≡ digit_of x }
