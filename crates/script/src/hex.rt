@@ -21,7 +21,7 @@ pub fn is_hex(word: &[u8]) -> bool
     word.len() % 2 == 0 && all_digits(word)
 }
 
-// Puts the bytes that the pairs say first into out.
+// Puts the bytes that the pairs say first into out. (By index: over `chunks_exact` zipped with out, the invariant would tell of the rests of two iterators in place of i.)
 fn unhex(word: &[u8], out: &mut [u8])
     requires { (is_hex word.now ≡ true) × (length word.now / 2 ≤ length out.old) }
     ensures { out.new ≡ hex_bytes word.now ++ drop (length word.now / 2) out.old }
