@@ -66,11 +66,9 @@ id_within n m most used i xs q h l s = omega (arith, within_bytes n m most used 
 
 -- the part of the bytes that is lent as the id of record number i
 pub lent_id : (k : Board) → Lawful k → (n used i : ℕ) (xs : List ℕ) → n ≡ k.table.size → 32 ≤ n → i < used
-    → take (i * n + 32 - i * n) (drop (i * n) xs) ≡ (k.table.read (get_or (records k.table.size used xs) i [])).id
+    → take 32 (drop (i * n) xs) ≡ (k.table.read (get_or (records k.table.size used xs) i [])).id
 lent_id k law n used i xs q h l =
-    let m : i * n + 32 - i * n ≡ 32 = omega arith in
-    ap (λ (m : ℕ). take m (drop (i * n) xs)) m
-    ∙ sym (law.named (get_or (records k.table.size used xs) i []) ∙ ap (λ (z : ℕ). id_of (get_or (records z used xs) i [])) (sym q) ∙ id_at n used i xs h l)
+    sym (law.named (get_or (records k.table.size used xs) i []) ∙ ap (λ (z : ℕ). id_of (get_or (records z used xs) i [])) (sym q) ∙ id_at n used i xs h l)
 
 module _ (k : Board) (law : Lawful k) (i : Id) (used n : ℕ) (xs : List ℕ) (s : sound_table k.table.size pending_most used xs ≡ true) where
   pub there : find_in i (map id_of (records k.table.size used xs)) ≡ Ok n → true ≡ is_pending i (pending_records k used xs)

@@ -12,9 +12,8 @@ use kinds::Horizon;
 use table::remove;
 
 // The pending record of the id goes, if there is one. The answer is how many are left, which is what the caller goes on with also where there is none.
-pub fn forget(pending: &mut [u8], used: usize, id: &[u8], on: Horizon) -> usize
+pub fn forget(pending: &mut [u8], used: usize, id: &[u8; 32], on: Horizon) -> usize
     requires pending_value { sound_table (board_of on).table.size pending_most used pending.old ≡ true }
-    requires id_len { length id.now ≡ 32 }
     ensures value { result ≡ length (without id.now (pending_records (board_of on) used pending.old)) }
     ensures pending_after { pending.new ≡ lay_pending (board_of on) (without id.now (pending_records (board_of on) used pending.old)) pending.old }
 {

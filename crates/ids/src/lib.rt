@@ -4,7 +4,7 @@
 
 mod order;
 
-ghost use Rattle.std.specs.Prelude.{◌≡◌, true, map, ◌*◌, ◌≤◌, length};
+ghost use Rattle.std.specs.Prelude.{◌≡◌, true, map, ◌+◌, ◌*◌, ◌≤◌, length, take, drop};
 ghost use Rattle.rules.specs.Ids.{rising};
 ghost use Rattle.rules.specs.Records.{records, id_of};
 ghost use Rattle.ids.specs.Search.{find_in};
@@ -12,12 +12,22 @@ ghost use Rattle.ids.specs.Search.{find_in};
 pub use order::{compare, ids_rise, is_below};
 use std::cmp::Ordering;
 
+// The id that stands at `at`.
+pub fn id_at(table: &[u8], at: usize) -> &[u8; 32]
+    requires { at + 32 ≤ length table.now }
+    ensures { result.now ≡ take 32 (drop at table.now) }
+{
+    let Ok(id) = <&[u8; 32]>::try_from(&table[at..at + 32]) else {
+        unreachable!()
+    };
+    id
+}
+
 // Where `id` stands among the first `used` records (`Ok`), or where it belongs (`Err`). Where the first words of two ids differ they decide.
-// Searched by hand: records are runs of `size` bytes, so that there is no slice of them for the library to search.
-pub fn find(table: &[u8], size: usize, used: usize, id: &[u8]) -> Result<usize, usize>
+// Searched by hand: how many bytes a record has is told by the board at run time, and a slice of records would need it as a constant.
+pub fn find(table: &[u8], size: usize, used: usize, id: &[u8; 32]) -> Result<usize, usize>
     requires le_size { (32 ≤ size) × (used * size ≤ length table.now) }
     requires table_value { rising (map id_of (records size used table.now)) ≡ true }
-    requires id_len { length id.now ≡ 32 }
     ensures { result ≡ find_in id.now (map id_of (records size used table.now)) }
 {
     let first = mem::u32_be(id, 0);
@@ -32,7 +42,7 @@ pub fn find(table: &[u8], size: usize, used: usize, id: &[u8]) -> Result<usize, 
         } else if first < word {
             hi = mid;
         } else {
-            match table[at..at + 32].cmp(id) {
+            match table[at..at + 32].cmp(&id[..]) {
                 Ordering::Less => {
                     lo = mid + 1;
                 }

@@ -12,7 +12,7 @@ ghost use Rattle.batch.specs.Needed.{listed};
 ghost use Rattle.batch.specs.Picked.{picked};
 ghost use Rattle.marks.specs.Marks.{beside, noted};
 
-use ids::find;
+use ids::{find, id_at};
 use kinds::{ID_SIZE, MAX_PENDING_ENTRIES};
 
 // A mark for each pending record that there may be: none is marked.
@@ -23,10 +23,9 @@ pub fn no_marks() -> [u8; MAX_PENDING_ENTRIES]
 }
 
 // The record of the id is marked, if there is one.
-fn mark(table: &[u8], size: usize, used: usize, id: &[u8], marks: &mut [u8])
+fn mark(table: &[u8], size: usize, used: usize, id: &[u8; 32], marks: &mut [u8])
     requires le_size { (32 ≤ size) × (used * size ≤ length table.now) }
     requires table_value { rising (map id_of (records size used table.now)) ≡ true }
-    requires id_len { length id.now ≡ 32 }
     requires used_in_bounds { used ≤ length marks.old }
     ensures { marks.new ≡ noted (find_in id.now (map id_of (records size used table.now))) marks.old }
 {
@@ -43,7 +42,7 @@ pub fn mark_listed(table: &[u8], size: usize, used: usize, ids: &[u8], marks: &m
     ensures { marks.new ≡ beside id_of (listed (ids_of ids.now)) (records size used table.now) ++ drop used marks.old }
 {
     for id in ids.chunks_exact(ID_SIZE) {
-        mark(table, size, used, id, marks);
+        mark(table, size, used, id_at(id, 0), marks);
     }
 }
 

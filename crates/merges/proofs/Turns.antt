@@ -3,7 +3,7 @@
 use mathlib.Core.Path.{◌≡◌, refl, sym, ap, ap₂, subst, ◌∙◌}
 use mathlib.Core.Bool.{Bool, true, cond}
 use mathlib.Core.List.{List, [], ◌∷◌, ◌++◌, map, append_assoc, append-nil}
-use Prim.Native.Nat.{ℕ, zero, suc, ◌+◌, ◌-◌, ◌*◌, ◌≤◌, ◌<◌}
+use Prim.Native.Nat.{ℕ, zero, suc, ◌+◌, ◌*◌, ◌≤◌, ◌<◌}
 use native.Mathlib.Omega.{arith}
 use lib.Dec.{eqb}
 use lib.ListN.{length, get_or, take, drop, length-map, length-append, length-drop, take-append-drop, drop_of_length-le, get_or-map}
@@ -112,22 +112,18 @@ module _ (size used kept fresh B : ℕ) (ps ms xs : List ℕ) where
       pub id_there : p * size + 32 ≤ length ps
       id_there = omega (arith, record_end size used p here, g.wide, g.table_room)
 
-      pub id_length : length (take (p * size + 32 - p * size) (drop (p * size) ps)) ≡ 32
-      id_length =
-          let w : p * size + 32 - p * size ≡ 32 = omega arith in
-          ap (λ (c : ℕ). length (take c (drop (p * size) ps))) w ∙ length-take-le 32 (drop (p * size) ps) (omega (arith, length-drop (p * size) ps, id_there))
+      id_length : length (take 32 (drop (p * size) ps)) ≡ 32
+      id_length = length-take-le 32 (drop (p * size) ps) (omega (arith, length-drop (p * size) ps, id_there))
 
       -- the new record of this place
       abbrev x : List ℕ
       x = get_or qs p (at_height B [])
 
       abbrev lent_id : Id
-      lent_id = take (p * size + 32 - p * size) (drop (p * size) ps)
+      lent_id = take 32 (drop (p * size) ps)
 
       its_id : lent_id ≡ id_of (get_or rs p [])
-      its_id =
-          let w : p * size + 32 - p * size ≡ 32 = omega arith in
-          ap (λ (c : ℕ). take c (drop (p * size) ps)) w ∙ sym (id_at size used p ps g.wide here)
+      its_id = sym (id_at size used p ps g.wide here)
 
       new_is : confirmed_bytes (record { id = lent_id; height = B }) ≡ x
       new_is = ap (λ (i : Id). confirmed_bytes (record { id = i; height = B })) its_id ∙ sym (get_or-map (at_height B) rs p [])
@@ -156,8 +152,8 @@ module _ (size used kept fresh B : ℕ) (ps ms xs : List ℕ) where
 
       -- it is 1, and the record has gone in
       pub merging_turn : (k : ℕ) → l ≡ suc k → get_or ms p 0 ≡ 1 → (i : ℕ) (b : List ℕ)
-          → i ≡ rank_of (find_in (take (p * size + 32 - p * size) (drop (p * size) ps)) (map id_of (records confirmed_size n a)))
-          → b ≡ opened i n l (confirmed_bytes (record { id = take (p * size + 32 - p * size) (drop (p * size) ps); height = B })) a
+          → i ≡ rank_of (find_in (take 32 (drop (p * size) ps)) (map id_of (records confirmed_size n a)))
+          → b ≡ opened i n l (confirmed_bytes (record { id = take 32 (drop (p * size) ps); height = B })) a
           → Merging b i k p
       merging_turn k f e i b r o =
           record {

@@ -10,13 +10,12 @@ ghost use Rattle.batch.specs.Batch.{merged};
 ghost use Rattle.batch.specs.Picked.{picked};
 ghost use Rattle.merges.specs.New.{at_height, rank_of, opened, Given};
 
-use kinds::{CONFIRMED_SIZE, HEIGHT_AT, Height, ID_SIZE};
+use kinds::{CONFIRMED_SIZE, HEIGHT_AT, Height};
 
 // How many of the first `n` confirmed records do not stand above the id.
-fn rank(recent: &[u8], n: usize, id: &[u8]) -> usize
+fn rank(recent: &[u8], n: usize, id: &[u8; 32]) -> usize
     requires confirmed_size_in_bounds { n * confirmed_size ≤ length recent.now }
     requires recent_value { rising (map id_of (records confirmed_size n recent.now)) ≡ true }
-    requires id_len { length id.now ≡ 32 }
     ensures { result ≡ rank_of (find_in id.now (map id_of (records confirmed_size n recent.now))) }
 {
     match ids::find(recent, CONFIRMED_SIZE, n, id) {
@@ -26,9 +25,8 @@ fn rank(recent: &[u8], n: usize, id: &[u8]) -> usize
 }
 
 // The confirmed records from number `i` to `n` move up by `left` places, and a record of the id and of `h` is put below them.
-fn put_below(recent: &mut [u8], i: usize, n: usize, left: usize, id: &[u8], h: Height)
+fn put_below(recent: &mut [u8], i: usize, n: usize, left: usize, id: &[u8; 32], h: Height)
     requires i_le_n { (i ≤ n) × ((0 < left) × ((n + left) * confirmed_size ≤ length recent.old)) }
-    requires id_len { length id.now ≡ 32 }
     ensures { recent.new ≡ opened i n left (confirmed_bytes (record { id = id.entry.now; height = h.0 })) recent.old }
 {
     mem::shift_up(
@@ -43,10 +41,9 @@ fn put_below(recent: &mut [u8], i: usize, n: usize, left: usize, id: &[u8], h: H
 }
 
 // A record of the id and of `h` goes in above those of the first `n` confirmed records that it is not below; the answer is how many these are.
-fn place(recent: &mut [u8], n: usize, left: usize, id: &[u8], h: Height) -> usize
+fn place(recent: &mut [u8], n: usize, left: usize, id: &[u8; 32], h: Height) -> usize
     requires left_nonzero { (0 < left) × ((n + left) * confirmed_size ≤ length recent.old) }
     requires recent_value { rising (map id_of (records confirmed_size n recent.old)) ≡ true }
-    requires id_len { length id.now ≡ 32 }
     ensures value { result ≡ rank_of (find_in id.now (map id_of (records confirmed_size n recent.old))) }
     ensures recent_after { recent.new ≡ opened result n left (confirmed_bytes (record { id = id.entry.now; height = h.0 })) recent.old }
 {
@@ -78,7 +75,7 @@ pub fn merge(
         }
         if marks[j] == 1 {
             let at = j * size;
-            n = place(recent, n, left, &table[at..at + ID_SIZE], h);
+            n = place(recent, n, left, ids::id_at(table, at), h);
             left -= 1;
         }
     }

@@ -7,8 +7,8 @@ ghost use Rattle.rules.specs.Memory.{pending_records, confirmed_records};
 ghost use Rattle.room.specs.Room.{held_above, comes_new, marked_count};
 
 use crate::skipped::{lasts, least_height};
-use ids::find;
-use kinds::{CONFIRMED_SIZE, Height, Horizon, ID_SIZE};
+use ids::{find, id_at};
+use kinds::{CONFIRMED_SIZE, Height, Horizon};
 use table::height_at;
 
 // How many confirmed records have at least the height.
@@ -30,9 +30,8 @@ pub(crate) fn count_staying(recent: &[u8], kept: usize, least: Height) -> usize
 }
 
 // Whether there is a confirmed record of the id that has at least the height.
-fn held_above(recent: &[u8], kept: usize, id: &[u8], least: Height) -> bool
+fn held_above(recent: &[u8], kept: usize, id: &[u8; 32], least: Height) -> bool
     requires recent_value { sound_table confirmed_size confirmed_most kept recent.now ≡ true }
-    requires id_len { length id.now ≡ 32 }
     ensures { result ≡ held_above least.0 (confirmed_records kept recent.now) id.now }
 {
     match find(recent, CONFIRMED_SIZE, kept, id) {
@@ -65,12 +64,7 @@ fn adds_one(
         return false;
     }
     let at = i * boards::record_size(on);
-    !held_above(
-        recent,
-        kept,
-        &pending[at..at + ID_SIZE],
-        least_height(skipped),
-    )
+    !held_above(recent, kept, id_at(pending, at), least_height(skipped))
 }
 
 // How many pending records make one confirmed record more.

@@ -13,7 +13,7 @@ fn renew(table: &mut [u8], size: usize, used: usize, rec: &[u8])
     requires table_value_2 { any (λ r. same (id_of r) (id_of rec.now)) (records size used table.old) ≡ true }
     ensures { table.new ≡ laid size used (placed id_of rec.now (records size used table.old)) table.old }
 {
-    if let Ok(i) = ids::find(table, size, used, &rec[..32]) {
+    if let Ok(i) = ids::find(table, size, used, ids::id_at(rec, 0)) {
         mem::put_bytes(table, i * size, rec);
     }
 }

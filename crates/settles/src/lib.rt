@@ -13,8 +13,8 @@ ghost use Rattle.ready.specs.Ready.{Ready};
 ghost use Rattle.settles.specs.Settled.{looked, Settled, AllSettled};
 
 use boards::waited;
-use ids::find;
-use kinds::{CONFIRMED_SIZE, HEIGHT_AT, Height, Horizon, ID_SIZE, State};
+use ids::{find, id_at};
+use kinds::{CONFIRMED_SIZE, HEIGHT_AT, Height, Horizon, State};
 use table::{PendingEntry, height_at, pending_at, put_field};
 
 // What a look at the confirmed record of an id tells: it holds exactly the height, or another one, or there is none.
@@ -26,9 +26,8 @@ enum Held {
 }
 
 // The confirmed record of the id, if there is one, gets h. The answer is what it held before.
-fn renew(recent: &mut [u8], kept: usize, id: &[u8], h: Height) -> Held
+fn renew(recent: &mut [u8], kept: usize, id: &[u8; 32], h: Height) -> Held
     requires recent_value { sound_table confirmed_size confirmed_most kept recent.old ≡ true }
-    requires id_len { length id.now ≡ 32 }
     ensures value { result ≡ looked h.0 id.now (confirmed_records kept recent.old) }
     ensures recent_after { recent.new ≡ lay_confirmed (renewed h.0 id.now (confirmed_records kept recent.old)) recent.old }
 {
@@ -77,7 +76,7 @@ fn settle(
 {
     let size = boards::record_size(on);
     let from = i * size;
-    let mark = match renew(recent, kept, &pending[from..from + ID_SIZE], h) {
+    let mark = match renew(recent, kept, id_at(pending, from), h) {
         Held::Exactly => return 2,
         Held::Another => 2,
         Held::Nothing => 1,

@@ -22,7 +22,7 @@ placed : (n : In-Ok) → (n.in-Ok.i < n.args.used) × (n.args.used * n.record_si
 placed n = in_table _ _ pending_most _ _ _ _ n.record_size-size.ensures.value n.requires.pending_value (at n)
 
 pub find-requires : goal.find-requires
-find-requires c = let both = searchable _ _ pending_most _ _ c.args.id.now c.record_size-size.ensures.value (omega (arith, c.record_size-size.ensures.lower_bound)) c.requires.pending_value c.requires.id_len in record { le_size = both.0; table_value = both.1.0; id_len = both.1.1 }
+find-requires c = let both = searchable _ _ pending_most _ _ c.args.id.now c.record_size-size.ensures.value (omega (arith, c.record_size-size.ensures.lower_bound)) c.requires.pending_value (search rules) in record { le_size = both.0; table_value = both.1.0 }
 
 pub remove-requires : goal.remove-requires
 remove-requires c = let p = placed (goal.at.remove-requires c).In-Ok in (omega (arith, p.0), p.1)

@@ -55,7 +55,7 @@ returns-then-not-judge_pending c = enter_damaged (board (goal.at.returns-then-no
 pub find-requires : goal.find-requires
 find-requires c =
     let k = board (goal.at.find-requires c).Start in
-    let g = given (goal.at.find-requires c).Start in let both = searchable _ _ pending_most g.state.pending g.table g.id c.record_size-size.ensures.value (omega (arith, c.record_size-size.ensures.lower_bound)) (pending_table k g.state.pending g.table (sound (goal.at.find-requires c).Else-not-judge_pending)) (search rules) in record { le_size = both.0; table_value = both.1.0; id_len = both.1.1 }
+    let g = given (goal.at.find-requires c).Start in let both = searchable _ _ pending_most g.state.pending g.table g.id c.record_size-size.ensures.value (omega (arith, c.record_size-size.ensures.lower_bound)) (pending_table k g.state.pending g.table (sound (goal.at.find-requires c).Else-not-judge_pending)) (search rules) in record { le_size = both.0; table_value = both.1.0 }
 
 pub returns-in_default : goal.returns-in_default
 returns-in_default c =
@@ -74,7 +74,6 @@ insert_pending-requires c = record {
     gap_used (board_of c.args.on).table.size c.args.state.pending c.in-Err.at c.args.pending.now c.args.id.now (gap (goal.at.insert_pending-requires c).In-Err),
     (room _ _ _ (sound (goal.at.insert_pending-requires c).Else-not-judge_pending) (full_at (goal.at.insert_pending-requires c).After-capacity) c.if-used-capacity.false).1,
   );
-  id_len = search rules;
 }
 
 pub returns-in_default-find : goal.returns-in_default-find

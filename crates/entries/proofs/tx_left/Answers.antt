@@ -25,7 +25,7 @@ pub returns-then-not-judge_pending : goal.returns-then-not-judge_pending
 returns-then-not-judge_pending c = leave_damaged (board (goal.at.returns-then-not-judge_pending c).Start) (board_lawful c.args.on) (given (goal.at.returns-then-not-judge_pending c).Start) (sym c.judge_pending.ensures ∙ c.if-not-judge_pending.true)
 
 pub forget-left-requires : goal.forget-left-requires
-forget-left-requires c = record { pending_value = pending_table (board (goal.at.forget-left-requires c).Start) (given (goal.at.forget-left-requires c).Start).state.pending (given (goal.at.forget-left-requires c).Start).table (sound (goal.at.forget-left-requires c).Else-not-judge_pending); id_len = search rules }
+forget-left-requires c = record { pending_value = pending_table (board (goal.at.forget-left-requires c).Start) (given (goal.at.forget-left-requires c).Start).state.pending (given (goal.at.forget-left-requires c).Start).table (sound (goal.at.forget-left-requires c).Else-not-judge_pending) }
 
 pub returns-then-left-used : goal.returns-then-left-used
 returns-then-left-used c =

@@ -1,4 +1,6 @@
-use mathlib.Core.Path.{◌∙◌}
+use mathlib.Core.Path.{◌≡◌, ◌∙◌}
+use lib.ListN.{length}
+use lib.Seq.{take_all}
 use mathlib.Core.List.{◌++◌}
 use native.Mathlib.Omega.{arith}
 use Rattle.std.specs.Slice.Iter.{chunks_exact_rest}
@@ -14,7 +16,9 @@ pub loop-id-preserved : goal.loop-id-preserved
 loop-id-preserved c =
     let next = c.in-Some.ensures.steps in
     let g : Marking c.args.size c.args.used c.args.table.now c.args.ids.now c.args.marks.now (c.in-Some.id.now ++ chunks_exact_rest c.next.new.self) c.loop-id.marks = rw next.1.0 at c.loop-id.invariant.1 in
-    (next.0 ∙ c.loop-id.invariant.0, marking_more _ _ _ _ _ _ _ _ g c.requires.table_value (next.1.1 ∙ c.loop-id.invariant.0) _ c.mark.ensures c.mark.auto.marks)
+    let long : length c.in-Some.id.now ≡ 32 = next.1.1 ∙ c.loop-id.invariant.0 in
+    let same : c.id_at.result.now ≡ c.in-Some.id.now = c.id_at.ensures ∙ take_all 32 c.in-Some.id.now (omega arith) in
+    (next.0 ∙ c.loop-id.invariant.0, marking_more _ _ _ _ _ _ _ _ g c.requires.table_value long _ (rw same at c.mark.ensures) c.mark.auto.marks)
 
 pub returns : goal.returns
 returns c = marking_all _ _ _ _ _ _ _ c.loop-id.invariant.1 (omega (arith, c.in-None.ensures.steps.1.0, c.loop-id.invariant.0))

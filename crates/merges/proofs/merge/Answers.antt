@@ -1,7 +1,7 @@
 use mathlib.Core.Path.{◌≡◌}
 use Prim.Native.Nat.{suc, ◌-◌}
 use native.Mathlib.Omega.{arith}
-use Rattle.merges.proofs.Turns.{merging_start, none_left, table_fits, mark_there, id_there, id_length, merging_skip, merging_turn, merging_stop}
+use Rattle.merges.proofs.Turns.{merging_start, none_left, table_fits, mark_there, id_there, merging_skip, merging_turn, merging_stop}
 use Rattle.merges.proofs.merge.Goals as goal
 use Rattle.merges.proofs.merge.Goals.{In-loop-j}
 
@@ -18,18 +18,15 @@ bounds-marks-j c = (mark_there _ _ _ _ _ _ _ _ c.requires c.loop-j.invariant _ (
 pub overflow_mul-at : goal.overflow_mul-at
 overflow_mul-at c = (omega (arith, id_there _ _ _ _ _ _ _ _ c.requires c.loop-j.invariant _ (next (goal.at.overflow_mul-at c).In-loop-j)))
 
-pub overflow_add-at : goal.overflow_add-at
-overflow_add-at c = (omega (arith, id_there _ _ _ _ _ _ _ _ c.requires c.loop-j.invariant _ (next (goal.at.overflow_add-at c).In-loop-j)))
-
-pub slice_bounds-place-end : goal.slice_bounds-place-end
-slice_bounds-place-end c = (id_there _ _ _ _ _ _ _ _ c.requires c.loop-j.invariant _ (next (goal.at.slice_bounds-place-end c).In-loop-j))
+pub id_at-requires : goal.id_at-requires
+id_at-requires c = id_there _ _ _ _ _ _ _ _ c.requires c.loop-j.invariant _ (next (goal.at.id_at-requires c).In-loop-j)
 
 pub place-n-requires : goal.place-n-requires
-place-n-requires c = record { left_nonzero = (omega arith, table_fits _ _ _ _ _ _ _ _ c.requires c.loop-j.invariant); recent_value = c.loop-j.invariant.rises; id_len = id_length _ _ _ _ _ _ _ _ c.requires c.loop-j.invariant _ (next (goal.at.place-n-requires c).In-loop-j) }
+place-n-requires c = record { left_nonzero = (omega arith, table_fits _ _ _ _ _ _ _ _ c.requires c.loop-j.invariant); recent_value = c.loop-j.invariant.rises }
 
 pub loop-j-preserved-then-marks-j-eq1 : goal.loop-j-preserved-then-marks-j-eq1
 loop-j-preserved-then-marks-j-eq1 c =
-    merging_turn _ _ _ _ _ _ _ _ c.requires c.loop-j.invariant _ (next (goal.at.loop-j-preserved-then-marks-j-eq1 c).In-loop-j) _ (omega arith) (omega (arith, c.if-marks-j-eq1.true)) _ _ c.place-n.ensures.value c.place-n.ensures.recent_after
+    merging_turn _ _ _ _ _ _ _ _ c.requires c.loop-j.invariant _ (next (goal.at.loop-j-preserved-then-marks-j-eq1 c).In-loop-j) _ (omega arith) (omega (arith, c.if-marks-j-eq1.true)) _ _ (rw c.id_at.ensures at c.place-n.ensures.value) (rw c.id_at.ensures at c.place-n.ensures.recent_after)
 
 pub loop-j-preserved : goal.loop-j-preserved
 loop-j-preserved c = (merging_skip _ _ _ _ _ _ _ _ c.requires c.loop-j.invariant _ (next (goal.at.loop-j-preserved c).In-loop-j) c.if-marks-j-eq1.false)

@@ -7,4 +7,4 @@ use Rattle.merges.proofs.place.Goals as goal
 
 pub put_below-requires : goal.put_below-requires
 put_below-requires c =
-    let w = rank_within _ _ c.rank-i.result c.rank-i.ensures in record { i_le_n = (omega (arith, w, length_ids confirmed_size c.args.n c.args.recent.now), c.requires.left_nonzero); id_len = c.requires.id_len }
+    let w = rank_within _ _ c.rank-i.result c.rank-i.ensures in record { i_le_n = (omega (arith, w, length_ids confirmed_size c.args.n c.args.recent.now), c.requires.left_nonzero) }

@@ -9,7 +9,7 @@ use borrow.Author.Rules.{rules}
 use Rattle.settles.proofs.renew.Goals as goal
 
 pub find-requires : goal.find-requires
-find-requires c = let both = searchable confirmed_size confirmed_size confirmed_most _ _ c.args.id.now refl (omega arith) c.requires.recent_value c.requires.id_len in record { le_size = both.0; table_value = both.1.0; id_len = both.1.1 }
+find-requires c = let both = searchable confirmed_size confirmed_size confirmed_most _ _ c.args.id.now refl (omega arith) c.requires.recent_value (search rules) in record { le_size = both.0; table_value = both.1.0 }
 
 pub height_at-was-requires : goal.height_at-was-requires
 height_at-was-requires c =

@@ -33,14 +33,11 @@ pub returns : goal.returns
 returns c =
     lasting (board_of c.args.on) c.args.skipped (confirmed_records c.args.kept c.args.recent.now) ((board_of c.args.on).table.read (get_or (records (board_of c.args.on).table.size c.args.used c.args.pending.now) c.args.i [])) c.args.mark c.if-mark-ne1.false (still_lasts (goal.at.returns c).After-record_size) _ _ _
     c.least_height.ensures
-    (lent_id (board_of c.args.on) (board_lawful c.args.on) _ c.args.used c.args.i c.args.pending.now c.record_size.ensures.value (omega (arith, c.record_size.ensures.lower_bound)) c.requires.i_lt_used.0)
+    (c.id_at.ensures ∙ lent_id (board_of c.args.on) (board_lawful c.args.on) _ c.args.used c.args.i c.args.pending.now c.record_size.ensures.value (omega (arith, c.record_size.ensures.lower_bound)) c.requires.i_lt_used.0)
     c.held_above.ensures
 
 pub overflow_mul-at : goal.overflow_mul-at
 overflow_mul-at c = omega (arith, within (goal.at.overflow_mul-at c).After-record_size)
 
-pub overflow_add-at : goal.overflow_add-at
-overflow_add-at c = omega (arith, within (goal.at.overflow_add-at c).After-record_size)
-
-pub slice_bounds-held_above-end : goal.slice_bounds-held_above-end
-slice_bounds-held_above-end c = omega (arith, within (goal.at.slice_bounds-held_above-end c).After-record_size)
+pub id_at-requires : goal.id_at-requires
+id_at-requires c = omega (arith, within (goal.at.id_at-requires c).After-record_size)

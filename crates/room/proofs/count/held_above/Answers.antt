@@ -1,6 +1,7 @@
 -- `room::count::held_above` meets its contract. Assumes nothing.
 use mathlib.Core.Path.{refl, sym, ◌∙◌}
 use native.Mathlib.Omega.{arith}
+use borrow.Author.Rules.{rules}
 use Rattle.rules.specs.Board.{confirmed_size, confirmed_most}
 use Rattle.table.proofs.Sound.{sound_told}
 use Rattle.by_id.proofs.ById.{searchable, in_table}
@@ -8,7 +9,7 @@ use Rattle.room.proofs.Adding.{held_there, held_nowhere}
 use Rattle.room.proofs.count.held_above.Goals as goal
 
 pub find-requires : goal.find-requires
-find-requires c = let both = searchable confirmed_size confirmed_size confirmed_most _ _ c.args.id.now refl (omega arith) c.requires.recent_value c.requires.id_len in record { le_size = both.0; table_value = both.1.0; id_len = both.1.1 }
+find-requires c = let both = searchable confirmed_size confirmed_size confirmed_most _ _ c.args.id.now refl (omega arith) c.requires.recent_value (search rules) in record { le_size = both.0; table_value = both.1.0 }
 
 pub height_at-requires : goal.height_at-requires
 height_at-requires c =

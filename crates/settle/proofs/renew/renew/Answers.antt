@@ -6,7 +6,6 @@ use mathlib.Core.Bool.{true≢false}
 use mathlib.Core.List.{List, map}
 use Prim.Native.Nat.{ℕ, ◌+◌, ◌*◌, ◌≤◌}
 use native.Mathlib.Omega.{arith}
-use lib.Seq.{length-take-le}
 use Rattle.rules.specs.Records.{records, id_of}
 use Rattle.ids.specs.Search.{find_in}
 use Rattle.ids.proofs.Records.{record_end}
@@ -22,24 +21,21 @@ end : (s : Start) (i : ℕ) → find_in (id_of s.args.rec.now) (map id_of (rs s)
 end s i f =
     record_end s.args.size s.args.used i (at_within s.args.size s.args.used i s.args.rec.now s.args.table.now s.requires.table_value f)
 
-pub slice_bounds-find-end : goal.slice_bounds-find-end
-slice_bounds-find-end c = sym (length-take-le 32 c.args.rec.now (omega arith))
-
 pub find-requires : goal.find-requires
-find-requires c = record { le_size = c.requires.le_size; table_value = c.requires.table_value; id_len = length-take-le 32 c.args.rec.now (omega arith) }
+find-requires c = record { le_size = c.requires.le_size; table_value = c.requires.table_value }
 
 pub overflow_mul-i : goal.overflow_mul-i
-overflow_mul-i c = omega (arith, end (goal.at.overflow_mul-i c).Start c.in-Ok.i (sym c.find.ensures ∙ c.in-Ok.is))
+overflow_mul-i c = omega (arith, end (goal.at.overflow_mul-i c).Start c.in-Ok.i (sym (rw c.id_at.ensures at c.find.ensures) ∙ c.in-Ok.is))
 
 pub put_bytes-requires : goal.put_bytes-requires
-put_bytes-requires c = omega (arith, end (goal.at.put_bytes-requires c).Start c.in-Ok.i (sym c.find.ensures ∙ c.in-Ok.is))
+put_bytes-requires c = omega (arith, end (goal.at.put_bytes-requires c).Start c.in-Ok.i (sym (rw c.id_at.ensures at c.find.ensures) ∙ c.in-Ok.is))
 
 pub returns-in-Ok : goal.returns-in-Ok
 returns-in-Ok c =
     c.put_bytes.ensures
-    ∙ at_bytes c.args.size c.args.used c.in-Ok.i c.args.rec.now c.args.table.now c.requires.table_value (sym c.find.ensures ∙ c.in-Ok.is) c.requires.rec_len c.requires.le_size.1
+    ∙ at_bytes c.args.size c.args.used c.in-Ok.i c.args.rec.now c.args.table.now c.requires.table_value (sym (rw c.id_at.ensures at c.find.ensures) ∙ c.in-Ok.is) c.requires.rec_len c.requires.le_size.1
 
 -- the id is there, so the search does not miss it
 pub returns-in_default : goal.returns-in_default
 returns-in_default c =
-    absurd (true≢false (sym c.requires.table_value_2 ∙ gap_any id_of (id_of c.args.rec.now) 0 c.in_default.field-0 (rs (goal.at.returns-in_default c).Start) c.requires.table_value (sym c.find.ensures ∙ c.in_default.is)))
+    absurd (true≢false (sym c.requires.table_value_2 ∙ gap_any id_of (id_of c.args.rec.now) 0 c.in_default.field-0 (rs (goal.at.returns-in_default c).Start) c.requires.table_value (sym (rw c.id_at.ensures at c.find.ensures) ∙ c.in_default.is)))
