@@ -1,9 +1,12 @@
 // Runs what the programs do over the files in data/, one after the other: inputs that a program's own run, on one file, does not have.
 #![tactic(auto)]
 
+use buffers::{read_full, zeros};
 use kinds::Height;
+use report::PAGE;
 use std::fs::File;
 use std::io;
+use views::{INSPECT_BUFFER, SHOW_BUFFER, inspect_text, show_text};
 
 // A file's name on a line, and the file to read.
 fn opened(rt: &HostRuntime, name: &str) -> io::Result<File> {
@@ -13,16 +16,20 @@ fn opened(rt: &HostRuntime, name: &str) -> io::Result<File> {
 
 // What `show` prints of a file.
 fn shown(rt: &HostRuntime, name: &str) -> io::Result<()> {
-    let mut input = opened(rt, name)?;
-    views::show(&mut input, rt)?;
-    Ok(())
+    let mut file = zeros::<SHOW_BUFFER>();
+    let n = read_full(&mut opened(rt, name)?, &mut file)?;
+    let mut page = [0u8; PAGE];
+    let k = show_text(&file, n, &mut page);
+    rt.write_all(&page[..k])
 }
 
 // What `inspect` prints of a file.
 fn inspected(rt: &HostRuntime, name: &str, chain: Option<Height>) -> io::Result<()> {
-    let mut input = opened(rt, name)?;
-    views::inspect(&mut input, rt, chain)?;
-    Ok(())
+    let mut file = zeros::<INSPECT_BUFFER>();
+    let n = read_full(&mut opened(rt, name)?, &mut file)?;
+    let mut page = [0u8; PAGE];
+    let k = inspect_text(&file, n, chain, &mut page);
+    rt.write_all(&page[..k])
 }
 
 // What `inspect` prints of a file beside a chain of that height.
