@@ -1,4 +1,4 @@
--- Four bytes at a time: as a number with the first byte the highest, they have the order of the bytes. So the first words of two ids that differ decide.
+-- Four and eight bytes at a time: as a number with the first byte the highest, they have the order of the bytes. So the first words of two ids that differ decide.
 -- Assumes nothing.
 use mathlib.Core.Path.{◌≡◌, refl, sym, ap, ◌∙◌}
 use Prim.Native.Nat.{ℕ, ◌+◌, ◌*◌, ◌≤◌, ◌<◌}
@@ -15,6 +15,7 @@ use Rattle.mem.proofs.Laws.{be_at_4}
 use Rattle.std.specs.declared.cmp.Ordering.{Ordering}
 use Rattle.std.specs.declared.cmp.Ordering.TheVariants.{Less, Greater}
 use Rattle.ids.specs.Search.{cmp}
+use Rattle.ids.specs.Words.{two_words}
 use Rattle.ids.proofs.Ids.{Below, id32, cmp_turn, cmp_below, below_cmp_is}
 
 -- two numbers decide, or the rest
@@ -86,6 +87,29 @@ module _ (a b c d w x y z : ℕ) (B : b < 256) (C : c < 256) (D : d < 256) (X : 
       go false true e f = four_more (ltb-true n m f)
       go false false e f = four_alike (omega (arith, ltb-false m n e, ltb-false n m f))
 
+-- a word of bytes is a number of 32 bits
+word_bound : (s : List ℕ) → ((i : ℕ) → get_or s i 0 < 256) → (at : ℕ) → be_at 4 s at < 4294967296
+word_bound s f at = rw (be_at_4 s at) (omega (arith, f at, f (at + 1), f (at + 2), f (at + 3)))
+
+-- a higher and a lower word against two others: one step of both is two of words
+module _ (h l i k : ℕ) (L : l < 4294967296) (K : k < 4294967296) (r : Ordering) where
+  abbrev d : ℕ
+  d = two_words h l
+
+  abbrev e : ℕ
+  e = two_words i k
+
+  both_words : step h i (step l k r) ≡ step d e r
+  both_words = go (ltb d e) (ltb e d) refl refl
+    where
+      go : (s t : Bool) → ltb d e ≡ s → ltb e d ≡ t → step h i (step l k r) ≡ cond s Less (cond t Greater r)
+      go true t f g = (let m : d < e = ltb-true d e f in less_or h i _ (omega arith) (λ o. less l k r (omega (arith, o))))
+      go false true f g = (let m : e < d = ltb-true e d g in more_or h i _ (omega arith) (λ o. more l k r (omega (arith, o))))
+      go false false f g =
+          let m : d ≡ e = omega (arith, ltb-false d e f, ltb-false e d g) in
+          let o : h ≡ i = omega arith in
+          alike h i _ o ∙ alike l k r (omega (arith, o))
+
 -- of two ids in tables: the words that the code reads
 module _ (a : List ℕ) (p : ℕ) (b : List ℕ) (q : ℕ) (ha : p + 32 ≤ length a) (hb : q + 32 ≤ length b) (fa : (i : ℕ) → get_or a i 0 < 256) (fb : (i : ℕ) → get_or b i 0 < 256) where
   -- what is left to compare
@@ -96,8 +120,8 @@ module _ (a : List ℕ) (p : ℕ) (b : List ℕ) (q : ℕ) (ha : p + 32 ≤ leng
   byte : (i j k l : ℕ) → k ≡ p + i → l ≡ q + i → j ≡ i + 1 → i < 32 → left i ≡ step (get_or a k 0) (get_or b l 0) (left j)
   byte i j k l d e f h = cmp_turn a p b q i ha hb h ∙ ap (λ (o : Ordering). step (get_or a (p + i) 0) (get_or b (q + i) 0) o) (ap left (sym f)) ∙ ap (λ (n : ℕ). step (get_or a n 0) (get_or b (q + i) 0) (left j)) (sym d) ∙ ap (λ (n : ℕ). step (get_or a k 0) (get_or b n 0) (left j)) (sym e)
 
-  -- a turn of the loop that compares
-  pub word_turn : (i : ℕ) → i + 4 ≤ 32 → left i ≡ step (be_at 4 a (p + i)) (be_at 4 b (q + i)) (left (i + 4))
+  -- one word of each
+  word_turn : (i : ℕ) → i + 4 ≤ 32 → left i ≡ step (be_at 4 a (p + i)) (be_at 4 b (q + i)) (left (i + 4))
   word_turn i h =
       let one = byte i (i + 1) (p + i) (q + i) refl refl refl (omega arith) in
       let two = byte (i + 1) (i + 2) (p + i + 1) (q + i + 1) (omega arith) (omega arith) (omega arith) (omega arith) in
@@ -106,6 +130,17 @@ module _ (a : List ℕ) (p : ℕ) (b : List ℕ) (q : ℕ) (ha : p + 32 ≤ leng
       rw (be_at_4 a (p + i), be_at_4 b (q + i), one, two, three, last)
       (four_bytes (get_or a (p + i) 0) (get_or a (p + i + 1) 0) (get_or a (p + i + 2) 0) (get_or a (p + i + 3) 0) (get_or b (q + i) 0) (get_or b (q + i + 1) 0) (get_or b (q + i + 2) 0) (get_or b (q + i + 3) 0)
       (fa (p + i + 1)) (fa (p + i + 2)) (fa (p + i + 3)) (fb (q + i + 1)) (fb (q + i + 2)) (fb (q + i + 3)) (left (i + 4)))
+
+  -- a turn of the loop that compares: two words
+  pub double_turn : (i : ℕ) → i + 8 ≤ 32 → left i ≡ step (two_words (be_at 4 a (p + i)) (be_at 4 a (p + i + 4))) (two_words (be_at 4 b (q + i)) (be_at 4 b (q + i + 4))) (left (i + 8))
+  double_turn i h =
+      let e : p + (i + 4) ≡ p + i + 4 = omega arith in
+      let f : q + (i + 4) ≡ q + i + 4 = omega arith in
+      let g : i + 4 + 4 ≡ i + 8 = omega arith in
+      let one = word_turn i (omega arith) in
+      let two = rw (e, f, g) at (word_turn (i + 4) (omega arith)) in
+      one ∙ ap (step (be_at 4 a (p + i)) (be_at 4 b (q + i))) two
+      ∙ both_words (be_at 4 a (p + i)) (be_at 4 a (p + i + 4)) (be_at 4 b (q + i)) (be_at 4 b (q + i + 4)) (word_bound a fa (p + i + 4)) (word_bound b fb (q + i + 4)) (left (i + 8))
 
   -- the first words decide where they differ
   pub words_below : be_at 4 a p < be_at 4 b q → Below (id32 p a) (id32 q b)

@@ -2,17 +2,16 @@
 use mathlib.Core.Path.{◌≡◌, refl, sym, ap, ◌∙◌}
 use mathlib.Core.Bool.{Bool, true, false, cond, ◌&&◌, ◌||◌}
 use mathlib.Core.List.{List, [], ◌∷◌}
-use Prim.Native.Nat.{ℕ, suc, ◌+◌, ◌-◌, ◌≤◌, ◌<◌}
+use Prim.Native.Nat.{ℕ, suc, ◌+◌, ◌≤◌, ◌<◌}
 use native.Mathlib.Numerals.{add-one}
 use native.Mathlib.Omega.{arith}
 use lib.Dec.{ltb, eqb}
-use lib.ListN.{length, take, drop, get_or, length-take, length-drop}
+use lib.ListN.{length, take, drop, get_or, length-take, length-drop, drop_of_length-le}
 use lib.Seq.{drop-cons, get_or-take, get_or-drop}
 use borrow.Author.Tests.{ltb-true, ltb-false, eq-eqb, ne_eqb}
 use Rattle.rules.specs.Ids.{Id, below}
 use Rattle.ids.specs.Search.{cmp}
-use Rattle.std.specs.Cmp.Lexicographic.{slice_cmp}
-use Rattle.std.specs.Ordering.{nat_cmp, is_lt, ordering_then}
+use Rattle.std.specs.Ordering.{is_lt}
 use Rattle.std.specs.declared.cmp.Ordering.{Ordering}
 use Rattle.std.specs.declared.cmp.Ordering.TheVariants.{Less, Equal, Greater}
 
@@ -80,19 +79,6 @@ cmp_refl a = go (cmp a a) (cmp_turned a a)
     go Equal e = refl
     go Greater e = let z : ◌≡◌ {A = ℕ} 0 1 = cc in absurd (omega arith)
 
--- the library's order of slices
-cmp_slices : (a b : Id) → slice_cmp nat_cmp a b ≡ cmp a b
-unfolding cmp
-cmp_slices [] [] = refl
-cmp_slices [] (y ∷ b) = refl
-cmp_slices (x ∷ a) [] = refl
-cmp_slices (x ∷ a) (y ∷ b) = go (ltb x y) (ltb y x) refl refl (cmp_slices a b)
-  where
-    go : (s t : Bool) → ltb x y ≡ s → ltb y x ≡ t → slice_cmp nat_cmp a b ≡ cmp a b → ordering_then (cond s Less (cond (eqb x y) Equal Greater)) (slice_cmp nat_cmp a b) ≡ cond s Less (cond t Greater (cmp a b))
-    go true t e f h = refl
-    go false true e f h = rw (above_differ x y f)
-    go false false e f h = rw (eq-eqb x y (alike x y e f)) h
-
 -- ---- what one tells of the other
 
 module _ (a b : Id) where
@@ -119,17 +105,6 @@ cmp_above a b e = cmp_below b a (cmp_turned b a ∙ ap turned e)
 abbrev pub id32 : ℕ → List ℕ → List ℕ
 id32 p a = take 32 (drop p a)
 
--- as a part of a slice that is lent
-id_lent : (p : ℕ) (a : List ℕ) → take (p + 32 - p) (drop p a) ≡ id32 p a
-id_lent p a = let e : p + 32 - p ≡ 32 = omega arith in rw e refl
-
--- what the library's order of such parts tells
-pub lent_cmp : (a : List ℕ) (p : ℕ) (b : List ℕ) (q : ℕ) → slice_cmp nat_cmp (take (p + 32 - p) (drop p a)) (take (q + 32 - q) (drop q b)) ≡ cmp (id32 p a) (id32 q b)
-lent_cmp a p b q = rw (id_lent p a, id_lent q b) (cmp_slices (id32 p a) (id32 q b))
-
-pub cmp_told : (p : ℕ) (a i : List ℕ) {r o : Ordering} → r ≡ slice_cmp nat_cmp (take (p + 32 - p) (drop p a)) i → r ≡ o → cmp (id32 p a) i ≡ o
-cmp_told p a i e f = sym (ap (λ (l : List ℕ). slice_cmp nat_cmp l i) (id_lent p a) ∙ cmp_slices (id32 p a) i) ∙ sym e ∙ f
-
 length_id32 : (p : ℕ) (a : List ℕ) → p + 32 ≤ length a → length (id32 p a) ≡ 32
 length_id32 p a h = simp (length-take, length-drop) (omega arith)
 
@@ -147,3 +122,8 @@ pub cmp_turn : (a : List ℕ) (p : ℕ) (b : List ℕ) (q i : ℕ) → p + 32 �
 cmp_turn a p b q i ha hb hi =
     rw (add-one, ← get_or_id32 p i a hi, ← get_or_id32 q i b hi)
     (cmp_drop (id32 p a) (id32 q b) i (rw (length_id32 p a ha) hi) (rw (length_id32 q b hb) hi))
+
+-- where the loop that compares ends
+pub cmp_end : (a : List ℕ) (p : ℕ) (b : List ℕ) (q : ℕ) → p + 32 ≤ length a → q + 32 ≤ length b → cmp (drop 32 (id32 p a)) (drop 32 (id32 q b)) ≡ Equal
+unfolding cmp
+cmp_end a p b q ha hb = rw (drop_of_length-le (id32 p a) {i = 32} (omega (arith, length_id32 p a ha)), drop_of_length-le (id32 q b) {i = 32} (omega (arith, length_id32 q b hb)))

@@ -42,7 +42,7 @@ pub fn find(table: &[u8], size: usize, used: usize, id: &[u8; 32]) -> Result<usi
         } else if first < word {
             hi = mid;
         } else {
-            match table[at..at + 32].cmp(&id[..]) {
+            match compare(table, at, id, 0) {
                 Ordering::Less => {
                     lo = mid + 1;
                 }

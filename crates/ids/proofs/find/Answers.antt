@@ -9,7 +9,9 @@ use lib.Seq.{take_all}
 use Rattle.rules.specs.Ids.{Id, below}
 use Rattle.rules.specs.Records.{records, id_of}
 use Rattle.mem.specs.Be.{be_at}
-use Rattle.ids.proofs.Ids.{Below, id32, cmp_below, cmp_equal, cmp_above, cmp_told}
+use Rattle.ids.specs.Search.{cmp}
+use Rattle.std.specs.declared.cmp.Ordering.{Ordering}
+use Rattle.ids.proofs.Ids.{Below, id32, cmp_below, cmp_equal, cmp_above}
 use Rattle.ids.proofs.First.{words_below}
 use Rattle.ids.proofs.Records.{length_ids, get_or_ids, record_end}
 use Rattle.ids.proofs.Rising.{below_up, below_down, below_at}
@@ -75,6 +77,10 @@ words_over t f g q =
     ∙ ap (λ (x : Id). below x (id32 p t.args.table.now)) (sym (id_is t))
     ∙ words_below t.args.id.now 0 t.args.table.now p (omega arith) (omega (arith, end t)) g f q
 
+-- the comparison of the middle with the id
+compared : (t : In-loop-lo) {o r : Ordering} → r ≡ cmp (id32 (mid t * t.args.size) t.args.table.now) (id32 0 t.args.id.now) → r ≡ o → cmp (id32 (mid t * t.args.size) t.args.table.now) t.args.id.now ≡ o
+compared t e f = ap (cmp (id32 (mid t * t.args.size) t.args.table.now)) (sym (id_is t)) ∙ sym e ∙ f
+
 pub loop-lo-init : goal.loop-lo-init
 loop-lo-init c = record {
   lo_le = omega arith;
@@ -105,15 +111,15 @@ pub overflow_add-lo-in-Less : goal.overflow_add-lo-in-Less
 overflow_add-lo-in-Less c = omega (arith, mid< (goal.at.overflow_add-lo-in-Less c).In-loop-lo)
 
 pub loop-lo-preserved-in-Less : goal.loop-lo-preserved-in-Less
-loop-lo-preserved-in-Less c = (lower (goal.at.loop-lo-preserved-in-Less c).In-loop-lo (rw (mid_id (goal.at.loop-lo-preserved-in-Less c).In-loop-lo) (cmp_below _ _ (cmp_told _ c.args.table.now c.args.id.now c.cmp.ensures c.in-Less.is))))
+loop-lo-preserved-in-Less c = (lower (goal.at.loop-lo-preserved-in-Less c).In-loop-lo (rw (mid_id (goal.at.loop-lo-preserved-in-Less c).In-loop-lo) (cmp_below _ _ (compared (goal.at.loop-lo-preserved-in-Less c).In-loop-lo c.compare.ensures c.in-Less.is))))
 
 pub returns-in-Equal : goal.returns-in-Equal
 returns-in-Equal c =
-    let b : get_or (js (goal.at.returns-in-Equal c).In-loop-lo) (mid (goal.at.returns-in-Equal c).In-loop-lo) [] ≡ c.args.id.now = mid_id (goal.at.returns-in-Equal c).In-loop-lo ∙ cmp_equal _ _ (cmp_told _ c.args.table.now c.args.id.now c.cmp.ensures c.in-Equal.is) in
+    let b : get_or (js (goal.at.returns-in-Equal c).In-loop-lo) (mid (goal.at.returns-in-Equal c).In-loop-lo) [] ≡ c.args.id.now = mid_id (goal.at.returns-in-Equal c).In-loop-lo ∙ cmp_equal _ _ (compared (goal.at.returns-in-Equal c).In-loop-lo c.compare.ensures c.in-Equal.is) in
     sym (find_at c.args.id.now 0 (js (goal.at.returns-in-Equal c).In-loop-lo) (mid (goal.at.returns-in-Equal c).In-loop-lo) (mid_in (goal.at.returns-in-Equal c).In-loop-lo) (below_at (js (goal.at.returns-in-Equal c).In-loop-lo) c.args.id.now c.requires.table_value (mid (goal.at.returns-in-Equal c).In-loop-lo) (mid_in (goal.at.returns-in-Equal c).In-loop-lo) b) b ∙ ap Ok (zero-add (mid (goal.at.returns-in-Equal c).In-loop-lo)))
 
 pub loop-lo-preserved : goal.loop-lo-preserved
-loop-lo-preserved c = (upper (goal.at.loop-lo-preserved c).In-loop-lo (rw (mid_id (goal.at.loop-lo-preserved c).In-loop-lo) (cmp_above _ _ (cmp_told _ c.args.table.now c.args.id.now c.cmp.ensures c.in-Greater.is))))
+loop-lo-preserved c = (upper (goal.at.loop-lo-preserved c).In-loop-lo (rw (mid_id (goal.at.loop-lo-preserved c).In-loop-lo) (cmp_above _ _ (compared (goal.at.loop-lo-preserved c).In-loop-lo c.compare.ensures c.in-Greater.is))))
 
 pub returns : goal.returns
 returns c =
