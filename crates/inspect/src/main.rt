@@ -1,18 +1,16 @@
 // Reads a history file of either board on standard input, one as large as a node's, and prints what `show` prints, for the targets of that board's columns. With
-// `--chain N` it first says whether the file goes with a chain of height N. How much of it is read is in `views`, what is printed in `report` and `premise`.
+// `--chain N` it first says whether the file goes with a chain of height N. How it is read is in `views`, what is printed in `report` and `premise`.
 #![tactic(auto)]
 
 ghost use Rattle.std.specs.Prelude.{◌≡◌};
 ghost use Rattle.inspect.specs.Words.{chain_of};
 
-use buffers::{read_full, zeros};
 use kinds::Height;
 use report::PAGE;
 use script::numbers::number_in;
 use std::env::FillError;
 use std::io;
 use std::rt::Env;
-use views::{INSPECT_BUFFER, inspect_text};
 
 // The chain's height that a word says, of 32 bits.
 #[tactic(auto, unfolding(crate::specs::Words::chain_of))]
@@ -53,10 +51,8 @@ fn told_chain(rt: &impl Env) -> Option<Height> {
 
 // Reads the file, and prints what it tells. (No contract can say what is read or written.)
 fn inspect(rt: HostRuntime, chain: Option<Height>) -> io::Result<()> {
-    let mut file = zeros::<INSPECT_BUFFER>();
-    let n = read_full(&mut rt.reader(), &mut file)?;
     let mut page = [0u8; PAGE];
-    let k = inspect_text(&file, n, chain, &mut page);
+    let k = views::inspect(&mut rt.reader(), chain, &mut page)?;
     if rt.write_all(&page[..k]).is_err() {
         eprintln!(rt; "inspect: the output is lost")?;
     }

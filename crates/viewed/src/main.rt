@@ -1,12 +1,10 @@
 // Runs what the programs do over the files in data/, one after the other: inputs that a program's own run, on one file, does not have.
 #![tactic(auto)]
 
-use buffers::{read_full, zeros};
 use kinds::Height;
 use report::PAGE;
 use std::fs::File;
 use std::io;
-use views::{INSPECT_BUFFER, SHOW_BUFFER, inspect_text, show_text};
 
 // A file's name on a line, and the file to read.
 fn opened(rt: &HostRuntime, name: &str) -> io::Result<File> {
@@ -14,22 +12,22 @@ fn opened(rt: &HostRuntime, name: &str) -> io::Result<File> {
     File::open(rt, name)
 }
 
-// What `show` prints of a file.
+// What `show` prints of a file. (A page that is lost is passed over: the next file's name then ends the run.)
 fn shown(rt: &HostRuntime, name: &str) -> io::Result<()> {
-    let mut file = zeros::<SHOW_BUFFER>();
-    let n = read_full(&mut opened(rt, name)?, &mut file)?;
+    let mut input = opened(rt, name)?;
     let mut page = [0u8; PAGE];
-    let k = show_text(&file, n, &mut page);
-    rt.write_all(&page[..k])
+    let k = views::show(&mut input, &mut page)?;
+    let _put = rt.write_all(&page[..k]).is_ok();
+    Ok(())
 }
 
 // What `inspect` prints of a file.
 fn inspected(rt: &HostRuntime, name: &str, chain: Option<Height>) -> io::Result<()> {
-    let mut file = zeros::<INSPECT_BUFFER>();
-    let n = read_full(&mut opened(rt, name)?, &mut file)?;
+    let mut input = opened(rt, name)?;
     let mut page = [0u8; PAGE];
-    let k = inspect_text(&file, n, chain, &mut page);
-    rt.write_all(&page[..k])
+    let k = views::inspect(&mut input, chain, &mut page)?;
+    let _put = rt.write_all(&page[..k]).is_ok();
+    Ok(())
 }
 
 // What `inspect` prints of a file beside a chain of that height.

@@ -1,17 +1,21 @@
-// What the programs print of a history that they have read. The buffer that they read it into stands in a proved signature: it has one byte more than the longest
-// file, by which a longer one is known.
+// What the programs do: a history is read from a reader, and what it tells is put into a page. The buffer stands in a proved signature: it has one byte more than the
+// longest file, by which a longer one is known.
 #![tactic(auto)]
 
-ghost use Rattle.std.specs.Prelude.{◌<◌, ◌≡◌, None, length, take};
+ghost use Rattle.std.specs.Prelude.{◌<◌, ◌≡◌, IfOk, None, OnErr, length, take};
 ghost use Rattle.io.specs.Counts.{IsPrefixLen};
+ghost use Rattle.std.specs.Io.{ReadsAtMost};
 ghost use Rattle.kinds.specs.declared.Horizon.{Horizon};
 ghost use Rattle.print.specs.Page.{page};
 ghost use Rattle.report.specs.Shown.{of_show, of_inspect, named_by, shown, printed};
+ghost use Rattle.views.specs.Read.{PrintsSome, PrintsKnown};
 
-use buffers::zeros;
+use buffers::{read_full, zeros};
 use codec::numbers::take;
 use kinds::{CONFIRMED_SIZE, Height, Horizon, PENDING_SIZE};
 use report::{PAGE, named_by, report};
+use std::io;
+use std::io::Read;
 
 // How a program reads a file: at most `longest` bytes, with so much room for its records, and as that board's file; where there is none, as that of the board that the
 // file names.
@@ -81,6 +85,18 @@ pub fn show_text(file: &[u8; SHOW_BUFFER], n: usize, out: &mut [u8; PAGE]) -> us
     SHOW.text(file, n, None, out)
 }
 
+// Reads a file to its end, and puts what `show` prints of it into `out`; the answer is how many bytes that is.
+pub fn show<R: Read>(input: &mut R, out: &mut [u8; PAGE]) -> io::Result<usize>
+    ensures within { ReadsAtMost result out.new }
+    ensures told { IfOk result (λ k. PrintsSome (shown of_show None Horizon.Base) 65537 (page out.new k) out.old) }
+    ensures known { IfOk result (λ k. PrintsKnown (shown of_show None Horizon.Base) (R.remaining input.old) 65537 (page out.new k) out.old) }
+    ensures unread { OnErr result (out.new ≡ out.old) }
+{
+    let mut file = zeros::<SHOW_BUFFER>();
+    let n = read_full(input, &mut file)?;
+    Ok(show_text(&file, n, out))
+}
+
 // ---- inspect
 
 // The most bytes of a file of either board, and the room for its records.
@@ -112,4 +128,20 @@ pub fn inspect_text(
         ≡ printed (shown of_inspect chain (named_by (take n file.now)) (take n file.now)) out.old }
 {
     INSPECT.text(file, n, chain, out)
+}
+
+// Reads a file to its end, and puts what `inspect` prints of it beside a chain into `out`; the answer is how many bytes that is.
+pub fn inspect<R: Read>(
+    input: &mut R,
+    chain: Option<Height>,
+    out: &mut [u8; PAGE],
+) -> io::Result<usize>
+    ensures within { ReadsAtMost result out.new }
+    ensures told { IfOk result (λ k. PrintsSome (λ file. shown of_inspect chain (named_by file) file) 3197970 (page out.new k) out.old) }
+    ensures known { IfOk result (λ k. PrintsKnown (λ file. shown of_inspect chain (named_by file) file) (R.remaining input.old) 3197970 (page out.new k) out.old) }
+    ensures unread { OnErr result (out.new ≡ out.old) }
+{
+    let mut file = zeros::<INSPECT_BUFFER>();
+    let n = read_full(input, &mut file)?;
+    Ok(inspect_text(&file, n, chain, out))
 }
