@@ -113,10 +113,8 @@ pub fn start(
     ensures { did result (after confirmed resolved pending recent)
         ≡ start_does on state (before confirmed resolved pending recent) }
 {
-    numbered(
-        estimator::new(confirmed, resolved, pending, recent, on),
-        state,
-    )
+    let started = estimator::new(confirmed, resolved, pending, recent, on);
+    numbered(started, state)
 }
 
 // block and blockraw

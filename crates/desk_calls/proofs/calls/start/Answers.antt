@@ -13,4 +13,4 @@ pub returns : goal.returns
 unfolding start_does
 returns c =
     both _ _ _ _ c.numbered.ensures refl
-    ∙ begins (λ (a : Answer). Reply.Number a.number) _ _ _ _ _ _ _ c.new.ensures (kept_is start_refusal start_refuses c.new.result (state_of fresh) c.args.state) refl
+    ∙ begins (λ (a : Answer). Reply.Number a.number) _ _ _ _ _ _ _ c.new-started.ensures (kept_is start_refusal start_refuses c.new-started.result (state_of fresh) c.args.state) refl
