@@ -121,7 +121,7 @@ module _ (a : List ℕ) (p : ℕ) (b : List ℕ) (q : ℕ) (ha : p + 32 ≤ leng
   byte i j k l d e f h = cmp_turn a p b q i ha hb h ∙ ap (λ (o : Ordering). step (get_or a (p + i) 0) (get_or b (q + i) 0) o) (ap left (sym f)) ∙ ap (λ (n : ℕ). step (get_or a n 0) (get_or b (q + i) 0) (left j)) (sym d) ∙ ap (λ (n : ℕ). step (get_or a k 0) (get_or b n 0) (left j)) (sym e)
 
   -- one word of each
-  word_turn : (i : ℕ) → i + 4 ≤ 32 → left i ≡ step (be_at 4 a (p + i)) (be_at 4 b (q + i)) (left (i + 4))
+  pub word_turn : (i : ℕ) → i + 4 ≤ 32 → left i ≡ step (be_at 4 a (p + i)) (be_at 4 b (q + i)) (left (i + 4))
   word_turn i h =
       let one = byte i (i + 1) (p + i) (q + i) refl refl refl (omega arith) in
       let two = byte (i + 1) (i + 2) (p + i + 1) (q + i + 1) (omega arith) (omega arith) (omega arith) (omega arith) in
